@@ -1,0 +1,4 @@
+pub mod Geometry
+pub mod Lru
+pub mod Contents
+pub mod Verdict
