@@ -1,0 +1,5 @@
+pub mod Number
+pub mod Header
+pub mod Image
+pub mod Word
+pub mod Wrapped

@@ -1,0 +1,23 @@
+-- The words of an image: its text.
+use Rattle.std.specs.Prelude.{ℕ, ◌+◌, ◌-◌, ◌%◌, Bool, ◌&&◌, Option, None, option_map, find, nat_le, ◌==◌, if◌then◌else◌, is_some, IsTrue}
+use Rattle.elf_spec.specs.declared.segment.Segment.{Segment}
+use Rattle.elf_spec.specs.Number.{u32_at}
+use Rattle.elf_spec.specs.Image.{Image}
+
+-- all four bytes at an address lie in the segment
+abbrev pub has_word : ℕ → Segment → Bool
+has_word address segment = nat_le segment.at address && nat_le (address + 4) (segment.at + segment.size)
+
+-- the word at an address: a multiple of 4 whose four bytes lie in one segment, read as little endian
+unfoldable pub word_at : Image → ℕ → Option ℕ
+word_at image address =
+    if address % 4 == 0
+    then option_map (λ segment. u32_at image.file (segment.offset + (address - segment.at))) (find (has_word address) image.segments)
+    else None
+
+-- the address is in the text
+abbrev pub is_text : Image → ℕ → Bool
+is_text image address = is_some (word_at image address)
+
+abbrev pub IsText : Image → ℕ → Type 0
+IsText image address = IsTrue (is_text image address)

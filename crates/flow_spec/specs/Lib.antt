@@ -1,0 +1,6 @@
+pub mod Transfer
+pub mod Configuration
+pub mod Successors
+pub mod Straight
+pub mod Order
+pub mod Acceptance

@@ -1,0 +1,12 @@
+//! How control flows through an image: configurations, their successors, and which programs are accepted.
+//!
+//! A configuration is the list of open calls and an address, so that a return leads to its own caller alone. Frames,
+//! successors, the order of faults and the limit are this project's own; the words come from `riscv_spec`.
+#![tactic(auto)]
+
+mod fault;
+mod frame;
+
+pub use fault::FlowFault;
+pub use frame::Frame;
+pub use riscv_spec::Link;

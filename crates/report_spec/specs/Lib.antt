@@ -1,0 +1,4 @@
+pub mod Text
+pub mod Valid
+pub mod Right
+pub mod Report

@@ -1,0 +1,42 @@
+-- Which verdict is right of some configurations: it is that of all paths of the program that end in one of them.
+use Rattle.std.specs.Prelude.{◌≡◌, ℕ, Bool, true, false, List, ◌∷◌, map}
+use Rattle.elf_spec.specs.Image.{Image}
+use Rattle.cache_spec.specs.Geometry.{Geometry}
+use Rattle.cache_spec.specs.Contents.{ends_in_hit}
+use Rattle.cache_spec.specs.Verdict.{IsAlwaysHit, IsAlwaysMiss}
+use Rattle.flow_spec.specs.Configuration.{Configuration, start_of}
+use Rattle.flow_spec.specs.Successors.{successors}
+use Rattle.transition_spec.specs.declared.way.Way.{Way}
+use Rattle.transition_spec.specs.Path.{IsPath}
+use Rattle.transition_spec.specs.Named.{Names}
+use Rattle.report_spec.specs.declared.line.Verdict.{Verdict}
+use Rattle.report_spec.specs.declared.line.Verdict.TheVariants.{AlwaysHit, AlwaysMiss, Unknown}
+
+-- the addresses that the members of a path fetch
+abbrev pub fetches_of : List Configuration → List ℕ
+fetches_of path = map (λ c. c.at) path
+
+-- a path of the program from its entry that ends in the set of configurations
+pub record EndsIn (image : Image) (entry : ℕ) (Ends : Configuration → Type 0) (path : List Configuration) : Type 0 where
+  pub last : Configuration
+  pub earlier : List Configuration
+  pub path_is : path ≡ last ∷ earlier
+  pub is_path : IsPath (successors image entry) (start_of entry) path
+  pub ends : Ends last
+
+-- the addresses are those that such a path fetches
+abbrev pub Fetches : Image → ℕ → (Configuration → Type 0) → List ℕ → Type 0
+Fetches image entry Ends addresses = (path : List Configuration) × EndsIn image entry Ends path × (addresses ≡ fetches_of path)
+
+-- the way names such a path, and that path ends in a hit, or in a miss
+pub record NamesFate (image : Image) (entry : ℕ) (g : Geometry) (Ends : Configuration → Type 0) (way : Way) (hits : Bool) : Type 0 where
+  pub path : List Configuration
+  pub ends_in : EndsIn image entry Ends path
+  pub names : Names (successors image entry) way path
+  pub fate : ends_in_hit g (fetches_of path) ≡ hits
+
+-- the verdict is right of the configurations
+abbrev pub IsRight : Image → ℕ → Geometry → (Configuration → Type 0) → Verdict → Type 0
+IsRight image entry g Ends AlwaysHit = IsAlwaysHit g (Fetches image entry Ends)
+IsRight image entry g Ends AlwaysMiss = IsAlwaysMiss g (Fetches image entry Ends)
+IsRight image entry g Ends (Unknown hit miss) = NamesFate image entry g Ends hit true × NamesFate image entry g Ends miss false
