@@ -1,5 +1,5 @@
 -- The words of an image: its text.
-use Rattle.std.specs.Prelude.{ℕ, ◌+◌, ◌-◌, ◌%◌, Bool, ◌&&◌, Option, None, option_map, find, nat_le, ◌==◌, if◌then◌else◌, is_some, IsTrue}
+use Rattle.std.specs.Prelude.{ℕ, ◌+◌, ◌-◌, ◌%◌, ◌≤◌, Bool, ◌&&◌, Option, Some, None, option_map, find, nat_le, ◌==◌, if◌then◌else◌, is_some, IsTrue, IsFalse}
 use Rattle.elf_spec.specs.declared.segment.Segment.{Segment}
 use Rattle.elf_spec.specs.Number.{u32_at}
 use Rattle.elf_spec.specs.Image.{Image}
@@ -21,3 +21,13 @@ is_text image address = is_some (word_at image address)
 
 abbrev pub IsText : Image → ℕ → Type 0
 IsText image address = IsTrue (is_text image address)
+
+-- the least number at or above one that passes a test, or none where none does
+abbrev pub IsNext : (ℕ → Bool) → ℕ → Option ℕ → Type 0
+IsNext test from None = (n : ℕ) → from ≤ n → IsFalse (test n)
+IsNext test from (Some found) =
+    IsTrue (test found) × (from ≤ found) × ((n : ℕ) → from ≤ n → IsTrue (test n) → found ≤ n)
+
+-- the least address of the text at or above one
+abbrev pub IsNextText : Image → ℕ → Option ℕ → Type 0
+IsNextText image from next = IsNext (is_text image) from next

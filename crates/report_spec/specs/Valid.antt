@@ -1,5 +1,5 @@
 -- Which lines have a text.
-use Rattle.std.specs.Prelude.{ℕ, ◌==◌, ◌||◌, Bool, true, ◌&&◌, nat_le, nat_lt, Option, Some, None}
+use Rattle.std.specs.Prelude.{ℕ, ◌==◌, ◌||◌, Bool, true, not, ◌&&◌, nat_le, nat_lt, Option, Some, None}
 use Rattle.std.specs.List.{list_all}
 use Rattle.transition_spec.specs.declared.way.Way.{Way}
 use Rattle.report_spec.specs.declared.line.Line.{Line}
@@ -23,7 +23,7 @@ is_valid_verdict (Unknown hit miss) = is_valid_way hit && is_valid_way miss
 -- there is a newest return address exactly where a call is open
 abbrev pub has_back_as_deep : ℕ → Option ℕ → Bool
 has_back_as_deep depth None = depth == 0
-has_back_as_deep depth (Some address) = nat_lt 0 depth
+has_back_as_deep depth (Some address) = not (depth == 0)
 
 abbrev pub is_valid : Line → Bool
 is_valid (At at verdict) = is_valid_verdict verdict
