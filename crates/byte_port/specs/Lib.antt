@@ -1,0 +1,4 @@
+pub mod Count
+pub mod Piece
+pub mod Sure
+pub mod Stream
