@@ -1,0 +1,4 @@
+pub use Rattle.cache_spec.specs.Geometry
+pub use Rattle.cache_spec.specs.Lru
+pub mod LruSet
+pub mod Slots
