@@ -9,4 +9,4 @@ mod tests;
 mod write;
 
 pub use report_spec::{Choices, Line, Verdict, Way};
-pub use write::write_line;
+pub use write::{address_text, write_line};

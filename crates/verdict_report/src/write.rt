@@ -30,7 +30,7 @@ fn push_line(into: &mut Vec<u8>, line: &Line) -> Result<(), AllocError>
 {
     match line {
         Line::At { at, verdict } => {
-            into.extend_from_slice(&address(*at))?;
+            into.extend_from_slice(&address_text(*at))?;
             push_said(into, verdict)
         }
         Line::Context {
@@ -60,7 +60,7 @@ fn push_address(into: &mut Vec<u8>, p: u32, behind: &[u8]) -> Result<(), AllocEr
     ensures ok { OnOk result (into.new.items ≡ into.old.items ++ (address_text p ++ behind.now)) }
     ensures err { OnErr result (Extends into.old.items into.new.items) }
 {
-    into.extend_from_slice(&address(p))?;
+    into.extend_from_slice(&address_text(p))?;
     into.extend_from_slice(behind)
 }
 
@@ -145,7 +145,7 @@ fn push_place(into: &mut Vec<u8>, node: u32, at: u32) -> Result<(), AllocError>
     into.extend_from_slice(b"#")?;
     push_number(into, node as u64)?;
     into.extend_from_slice(b" ")?;
-    into.extend_from_slice(&address(at))
+    into.extend_from_slice(&address_text(at))
 }
 
 #[tactic(auto, using(std::proofs::Common::append_assoc))]
@@ -165,7 +165,7 @@ fn push_back(into: &mut Vec<u8>, back: Option<u32>) -> Result<(), AllocError>
 {
     match back {
         None => into.extend_from_slice(b"none"),
-        Some(back) => into.extend_from_slice(&address(back)),
+        Some(back) => into.extend_from_slice(&address_text(back)),
     }
 }
 
@@ -177,9 +177,9 @@ fn push_number(into: &mut Vec<u8>, n: u64) -> Result<(), AllocError>
     into.extend_from_slice(buffer.format(n).as_bytes())
 }
 
-/// The text of an address.
+/// The text of an address or a word: `0x` and eight lower-case hexadecimal digits.
 #[tactic(auto, unfolding(report_spec::specs::Text::address_text))]
-fn address(p: u32) -> [u8; 10]
+pub fn address_text(p: u32) -> [u8; 10]
     ensures { result ≡ address_text p }
 {
     let mut digits = [0u8; 8];
