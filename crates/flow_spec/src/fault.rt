@@ -1,3 +1,5 @@
+use std::alloc::AllocError;
+
 /// Why a program isn't accepted. Addresses are in bytes.
 #[derive(Clone, Copy, Debug, PartialEq, Eq)]
 pub enum FlowFault {
@@ -16,4 +18,15 @@ pub enum FlowFault {
     /// A word that isn't followed today.
     NotBuilt { at: u32 },
     OutOfMemory,
+}
+
+impl From<AllocError> for FlowFault {
+    ghost use Rattle.std.specs.Prelude.{◌≡◌};
+    ghost use Rattle.flow_spec.specs.declared.fault.FlowFault.TheVariants.{OutOfMemory};
+
+    ghost from_gives = { λ _ fault. fault ≡ OutOfMemory };
+
+    fn from(_: AllocError) -> Self {
+        FlowFault::OutOfMemory
+    }
 }
