@@ -1,0 +1,51 @@
+ghost use Rattle.std.specs.Prelude.{◌≡◌, codes};
+ghost use Rattle.command_spec.specs.Settings.{settings_of, geometry_in, geometry_of, number_at};
+ghost use Rattle.top_words.specs.Views.{bytes_of};
+
+use crate::number::number_of;
+use crate::options::{is_plain, value_of};
+use cache_geom::Geometry;
+use command_spec::Settings;
+
+/// The settings that the words give. None where they aren't in plain form, name no command that is built, or have a
+/// value out of its range. The words lack the program's name.
+#[tactic(auto, unfolding(command_spec::specs::Settings::settings_of))]
+pub fn read_words(words: &[String]) -> Option<Settings>
+    ensures { result ≡ settings_of (bytes_of words.now) }
+{
+    let (command, options) = words.split_first()?;
+    if command.as_str() != "classify" || !is_plain(options) {
+        return None;
+    }
+    let geometry = geometry_in(options)?;
+    Some(Settings { geometry })
+}
+
+fn geometry_in(words: &[String]) -> Option<Geometry>
+    ensures { result ≡ geometry_in (bytes_of words.now) }
+{
+    let line = number_at(words, "--line", 32)?;
+    let sets = number_at(words, "--sets", 64)?;
+    let ways = number_at(words, "--ways", 4)?;
+    geometry_of(line, sets, ways)
+}
+
+/// The number behind a name, or the default where the name isn't there.
+fn number_at(words: &[String], name: &str, default: u64) -> Option<u64>
+    ensures { result ≡ number_at name.now default (bytes_of words.now) }
+{
+    match value_of(words, name) {
+        None => Some(default),
+        Some(text) => number_of(text),
+    }
+}
+
+fn geometry_of(line: u64, sets: u64, ways: u64) -> Option<Geometry>
+    ensures { result ≡ geometry_of line sets ways }
+{
+    let most = u32::MAX as u64;
+    if line > most || sets > most || ways > most {
+        return None;
+    }
+    Geometry::new(line as u32, sets as u32, ways as u32)
+}
