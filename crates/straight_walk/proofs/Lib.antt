@@ -5,3 +5,4 @@ pub mod Lines
 pub mod Reported
 pub mod Refused
 pub mod Kept
+pub mod Wrapped
