@@ -18,7 +18,9 @@ fn two_words(alloc: Global) -> Result<Vec<u8>, AllocError> {
 
 #[test]
 fn a_wrapped_file_has_its_words(rt: HostRuntime) -> Result<(), Fail> {
-    let image: Image = read(rt.alloc(), two_words(rt.alloc())?)?;
+    let file = two_words(rt.alloc())?;
+    assert_eq!(rt; file.len(), 92);
+    let image: Image = read(rt.alloc(), file)?;
     let text = Segment {
         at: 0x10000,
         size: 8,

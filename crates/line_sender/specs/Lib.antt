@@ -1,0 +1,4 @@
+pub use Rattle.report_spec.specs.Text
+pub use Rattle.report_spec.specs.Valid
+pub use Rattle.byte_port.specs.Stream
+pub mod Pending

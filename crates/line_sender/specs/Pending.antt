@@ -1,0 +1,29 @@
+-- What stands in a buffer between a report and its sink, and what an answer says of the sink's counts.
+use Rattle.std.specs.Prelude.{◌≡◌, ℕ, ◌≤◌, List, ◌++◌, Option, Result, Ok, Err}
+use Rattle.std.specs.Io.KnownBytes.{Appends}
+use Rattle.byte_port.specs.Count.{Rose}
+use Rattle.byte_port.specs.declared.SinkFault.{SinkFault}
+use Rattle.byte_port.specs.declared.SinkFault.TheVariants as faults
+use Rattle.line_sender.specs.declared.SendStop.{SendStop}
+use Rattle.line_sender.specs.declared.SendStop.TheVariants as stops
+
+-- since the sink stood at `begun`, what was sent and then the buffer are the text
+abbrev pub Pending : Option (List ℕ) → Option (List ℕ) → List ℕ → List ℕ → Type 0
+Pending begun now buffer text = (sent : List ℕ) × Appends begun now sent × (sent ++ buffer ≡ text)
+
+-- why sending stopped, where a write ended with this fault
+abbrev pub stop_of : SinkFault → SendStop
+stop_of faults.Failed = stops.Failed
+stop_of faults.OutOfMemory = stops.OutOfMemory
+
+-- a failure only where the count of faults rose, and else the count as it was
+abbrev pub CountsSend : {T : Type 0} → Result T SendStop → ℕ → ℕ → Type 0
+CountsSend (Ok value) before now = now ≡ before
+CountsSend (Err stops.Failed) before now = Rose before now
+CountsSend (Err stops.OutOfMemory) before now = now ≡ before
+
+-- refusals only at want of memory, which may also be the buffer's own, and else the count as it was
+abbrev pub CountsSendRefusals : {T : Type 0} → Result T SendStop → ℕ → ℕ → Type 0
+CountsSendRefusals (Ok value) before now = now ≡ before
+CountsSendRefusals (Err stops.Failed) before now = now ≡ before
+CountsSendRefusals (Err stops.OutOfMemory) before now = before ≤ now

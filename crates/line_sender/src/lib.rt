@@ -1,0 +1,109 @@
+//! Report lines on their way to a sink.
+//!
+//! The lines' texts are gathered in one reused buffer, which the caller holds, and handed on in pieces of about 64 KiB:
+//! there is no write for each line, and a report is never held whole. Each contract says what is pending, as one word:
+//! since the sink stood at some bytes, what was sent and then the buffer are a text. The laws in `proofs/Pending.antt`
+//! carry that from line to line; `send_lines` is the loop over a slice, and shows their use. Stands on `byte_port` and
+//! on `verdict_report`.
+#![tactic(auto)]
+
+ghost use Rattle.std.specs.Prelude.{◌≡◌, ◌<◌, ◌++◌, [], length, IsTrue, OnOk, OnErr};
+ghost use Rattle.std.specs.List.{list_all};
+ghost use Rattle.std.specs.Io.KnownBytes.{Appends};
+ghost use Rattle.byte_port.specs.Stream.{SendsPrefix};
+ghost use Rattle.report_spec.specs.Text.{line_text, text_of};
+ghost use Rattle.report_spec.specs.Valid.{is_valid};
+ghost use Rattle.line_sender.specs.Pending.{Pending, CountsSend, CountsSendRefusals};
+
+use byte_port::{Sink, SinkFault, send_all};
+use std::alloc::{AllocError, Global};
+use verdict_report::{Line, write_line};
+
+#[cfg(test)]
+mod tests;
+
+/// How many bytes are gathered before they are handed on.
+pub const PIECE: usize = 65536;
+
+/// Why sending stopped.
+#[derive(Clone, Copy, Debug, PartialEq, Eq)]
+pub enum SendStop {
+    /// The sink failed. Its count of faults rose.
+    Failed,
+    /// No memory was left, for the buffer or for the sink.
+    OutOfMemory,
+}
+
+impl From<SinkFault> for SendStop {
+    ghost use Rattle.line_sender.specs.Pending.{stop_of};
+    ghost use Rattle.std.specs.Prelude.{◌≡◌};
+
+    ghost from_gives = { λ fault stop. stop ≡ stop_of fault };
+
+    fn from(fault: SinkFault) -> Self {
+        match fault {
+            SinkFault::Failed => SendStop::Failed,
+            SinkFault::OutOfMemory => SendStop::OutOfMemory,
+        }
+    }
+}
+
+impl From<AllocError> for SendStop {
+    ghost use Rattle.std.specs.Prelude.{◌≡◌};
+    ghost use Rattle.line_sender.specs.declared.SendStop.TheVariants as stops;
+
+    ghost from_gives = { λ _ stop. stop ≡ stops.OutOfMemory };
+
+    fn from(_: AllocError) -> Self {
+        SendStop::OutOfMemory
+    }
+}
+
+/// Adds the text of a valid line to what the buffer has, and hands the buffer on once it has a piece.
+/// After an error a front of that was sent, and the buffer is of no more use.
+pub fn send_line<O: Sink>(out: &mut O, buffer: &mut Vec<u8>, line: &Line) -> Result<(), SendStop>
+    requires { IsTrue (is_valid line.now) }
+    ensures pending { OnOk result (Pending (O.sent out.old) (O.sent out.new) buffer.new.items (buffer.old.items ++ line_text line.now)) }
+    ensures part { OnErr result (SendsPrefix (O.sent out.old) (O.sent out.new) (buffer.old.items ++ line_text line.now)) }
+
+    // Less than a piece is left in the buffer, and less than a piece is not sent.
+    ensures below_piece { OnOk result (length buffer.new.items < PIECE) }
+    ensures held { length (buffer.old.items ++ line_text line.now) < PIECE → out.new ≡ out.old }
+    ensures faults { CountsSend result (O.faults out.old) (O.faults out.new) }
+    ensures refusals { CountsSendRefusals result (O.refusals out.old) (O.refusals out.new) }
+{
+    write_line(line, buffer)?;
+    if buffer.len() < PIECE {
+        return Ok(());
+    }
+    finish(out, buffer)
+}
+
+/// Hands on what the buffer has, which then is empty and keeps its room.
+/// After an error a front of that was sent, and the buffer is of no more use.
+pub fn finish<O: Sink>(out: &mut O, buffer: &mut Vec<u8>) -> Result<(), SendStop>
+    ensures whole { OnOk result (Appends (O.sent out.old) (O.sent out.new) buffer.old.items) }
+    ensures empty { OnOk result (buffer.new.items ≡ []) }
+    ensures part { OnErr result (SendsPrefix (O.sent out.old) (O.sent out.new) buffer.old.items) }
+    ensures faults { CountsSend result (O.faults out.old) (O.faults out.new) }
+    ensures refusals { CountsSendRefusals result (O.refusals out.old) (O.refusals out.new) }
+{
+    send_all(out, buffer)?;
+    buffer.clear();
+    Ok(())
+}
+
+/// Sends valid lines, one after another. After an error the sink has a front of their text.
+pub fn send_lines<O: Sink>(alloc: Global, out: &mut O, lines: &[Line]) -> Result<(), SendStop>
+    requires { IsTrue (list_all is_valid lines.now) }
+    ensures whole { OnOk result (Appends (O.sent out.old) (O.sent out.new) (text_of lines.now)) }
+    ensures part { OnErr result (SendsPrefix (O.sent out.old) (O.sent out.new) (text_of lines.now)) }
+    ensures faults { CountsSend result (O.faults out.old) (O.faults out.new) }
+    ensures refusals { CountsSendRefusals result (O.refusals out.old) (O.refusals out.new) }
+{
+    let mut buffer = Vec::with_capacity(alloc, PIECE)?;
+    for line in lines {
+        send_line(out, &mut buffer, line)?;
+    }
+    finish(out, &mut buffer)
+}
