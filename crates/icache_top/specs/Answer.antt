@@ -1,0 +1,90 @@
+-- What a run answers: for each status, what it says of the words, of the bytes that the source had, and of the bytes
+-- that the sink got. This project's own statuses; their order is that in which the causes are met.
+use Rattle.std.specs.Prelude.{◌≡◌, ◌⊎◌, ℕ, ◌+◌, false, List, Option, Some, Result, Ok, Err}
+use Rattle.std.specs.Io.KnownBytes.{Appends, Keeps, Consumes, IsAtEnd}
+use Rattle.byte_port.specs.Count.{Rose}
+use Rattle.byte_port.specs.Stream.{SendsPrefix, Takes}
+use Rattle.elf_spec.specs.Image.{Image, image_of}
+use Rattle.elf_spec.specs.Wrapped.{IsWrapped}
+use Rattle.elf_spec.specs.declared.fault.ElfFault.{ElfFault}
+use Rattle.elf_spec.specs.declared.fault.ElfFault.TheVariants as elf
+use Rattle.flow_spec.specs.declared.fault.FlowFault.{FlowFault}
+use Rattle.flow_spec.specs.Acceptance.{IsRefused}
+use Rattle.flow_spec.specs.Straight.{built_successors}
+use Rattle.cache_spec.specs.Geometry.{Geometry}
+use Rattle.report_spec.specs.Report.{IsReport}
+use Rattle.command_spec.specs.declared.settings.Settings.{Settings}
+use Rattle.command_spec.specs.Settings.{settings_of}
+use Rattle.top_words.specs.declared.status.Status.{Status}
+use Rattle.top_words.specs.declared.status.Status.TheVariants.{Done, Usage, OutOfMemory, ReadFault, WriteFault, FileTooBig, Elf, Flow, TooManyBlocks}
+
+-- the most bytes that a file may have
+abbrev pub file_limit : ℕ
+file_limit = 16777216
+
+-- all bytes that were left are the file, and none is left
+abbrev pub Reads : Option (List ℕ) → Option (List ℕ) → List ℕ → Type 0
+Reads left now file = Consumes left now file × IsAtEnd now
+
+-- the text is a report of the file at a geometry
+abbrev pub IsReportOf : Geometry → List ℕ → List ℕ → Type 0
+IsReportOf g file text = (image : Image) × (image_of file ≡ Ok image) × IsReport image image.entry g false text
+
+-- the file isn't read as an executable, and this is why
+abbrev pub HasElfFault : List ℕ → ElfFault → Type 0
+HasElfFault file fault = (fault ≡ elf.FormNotBuilt) × (IsWrapped file → ⊥)
+
+-- the program of the file isn't accepted, and this is why
+abbrev pub HasFlowFault : List ℕ → FlowFault → Type 0
+HasFlowFault file fault =
+    (image : Image) × (image_of file ≡ Ok image) × IsRefused (built_successors image image.entry) image image.entry fault
+
+-- what a status says of the file that was read, and of what the sink got
+abbrev pub Tells : Geometry → List ℕ → Status → Option (List ℕ) → Option (List ℕ) → Type 0
+Tells g file Done old new = (text : List ℕ) × IsReportOf g file text × Appends old new text
+Tells g file WriteFault old new = (text : List ℕ) × IsReportOf g file text × SendsPrefix old new text
+Tells g file (Elf fault) old new = HasElfFault file fault × Keeps old new
+Tells g file (Flow fault) old new = HasFlowFault file fault × Keeps old new
+Tells g file OutOfMemory old new =
+    Keeps old new ⊎ ((text : List ℕ) × IsReportOf g file text × SendsPrefix old new text)
+Tells g file Usage old new = ⊥
+Tells g file ReadFault old new = ⊥
+Tells g file FileTooBig old new = ⊥
+Tells g file (TooManyBlocks set count) old new = ⊥
+
+-- the words give settings, the whole file was read, and the status says this of it
+abbrev pub Read : List (List ℕ) → Status → Option (List ℕ) → Option (List ℕ) → Option (List ℕ) → Option (List ℕ) → Type 0
+Read words status left now old new =
+    (settings : Settings) × (settings_of words ≡ Some settings)
+    × ((file : List ℕ) × Reads left now file × Tells settings.geometry file status old new)
+
+-- what a run answers, of the bytes left in the source before and after, and of those sent to the sink before and after
+abbrev pub Answers : List (List ℕ) → Status → Option (List ℕ) → Option (List ℕ) → Option (List ℕ) → Option (List ℕ) → Type 0
+Answers words Usage left now old new = Keeps left now × Keeps old new
+Answers words ReadFault left now old new = Keeps old new
+Answers words FileTooBig left now old new = Takes left now (file_limit + 1) × Keeps old new
+Answers words OutOfMemory left now old new = Keeps old new ⊎ Read words OutOfMemory left now old new
+Answers words Done left now old new = Read words Done left now old new
+Answers words WriteFault left now old new = Read words WriteFault left now old new
+Answers words (Elf fault) left now old new = Read words (Elf fault) left now old new
+Answers words (Flow fault) left now old new = Read words (Flow fault) left now old new
+Answers words (TooManyBlocks set count) left now old new = ⊥
+
+abbrev pub status_of : Result (Unit {0}) Status → Status
+status_of (Ok done) = Done
+status_of (Err status) = status
+
+-- the source's count of faults rose at a read fault, and is as it was else
+abbrev pub CountsSource : Status → ℕ → ℕ → Type 0
+CountsSource ReadFault before now = Rose before now
+CountsSource status before now = now ≡ before
+
+-- the sink's count of faults rose at a write fault, and is as it was else
+abbrev pub CountsOut : Status → ℕ → ℕ → Type 0
+CountsOut WriteFault before now = Rose before now
+CountsOut status before now = now ≡ before
+
+-- the sink has got the whole text, or a front of it where one of its counts rose
+abbrev pub Reports : List ℕ → Option (List ℕ) → Option (List ℕ) → ℕ → ℕ → ℕ → ℕ → Type 0
+Reports text old new faults faults' refusals refusals' =
+    Appends old new text ⊎ (SendsPrefix old new text × (Rose faults faults' ⊎ Rose refusals refusals'))

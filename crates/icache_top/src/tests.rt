@@ -1,0 +1,223 @@
+use crate::{IdleGate, Outcome, Status, run};
+use byte_port::{SureSink, SureSource};
+use elf_image::ElfFault;
+use flow_spec::FlowFault;
+use std::alloc::{AllocError, Global};
+use std::process::Abort;
+use std::test::Fail;
+use std::thread::Threads;
+
+/// The file up to the program header's sizes.
+const START: [u8; 68] = [
+    0x7f, 0x45, 0x4c, 0x46, 1, 1, 1, 0, 0, 0, 0, 0, 0, 0, 0, 0, 2, 0, 0xf3, 0, 1, 0, 0, 0, 0, 0, 1,
+    0, 0x34, 0, 0, 0, 0, 0, 0, 0, 0, 0, 0, 0, 0x34, 0, 0x20, 0, 1, 0, 0, 0, 0, 0, 0, 0, 1, 0, 0, 0,
+    0x54, 0, 0, 0, 0, 0, 1, 0, 0, 0, 1, 0,
+];
+
+const FLAGS: [u8; 8] = [5, 0, 0, 0, 4, 0, 0, 0];
+
+const USAGE: &str = "icache: usage
+  icache classify [--line N] [--sets N] [--ways N] [--workers N] [--nodes N] [--entry 0xN] [--contexts]
+  icache graph [--entry 0xN]
+  icache sample --number N [--size N] [--line N] [--sets N] [--ways N] [--workers N] [--nodes N]
+";
+
+/// The executable of some words at 0x10000, as many as a u32 counts.
+fn wrap(alloc: Global, words: &[u32]) -> Result<Vec<u8>, AllocError> {
+    let size = (words.len() as u64).wrapping_mul(4).to_le_bytes();
+    let [a, b, c, d, ..] = size;
+    let mut file = START.to_vec(alloc)?;
+    file.extend_from_slice(&[a, b, c, d])?;
+    file.extend_from_slice(&[a, b, c, d])?;
+    file.extend_from_slice(&FLAGS)?;
+    for word in words {
+        file.extend_from_slice(&word.to_le_bytes())?;
+    }
+    Ok(file)
+}
+
+/// So many `nop`s, and the given word behind them.
+fn nops(alloc: Global, count: usize, last: u32) -> Result<Vec<u32>, AllocError> {
+    let mut words = vec![in alloc; 0x13; count]?;
+    words.push(last)?;
+    Ok(words)
+}
+
+/// What a run gave, and what standard output and standard error got.
+#[derive(Drop)]
+struct Ran {
+    outcome: Outcome,
+    out: SureSink,
+    err: SureSink,
+}
+
+fn run_on(
+    rt: &(impl Threads + Sync),
+    alloc: Global,
+    line: &str,
+    file: Vec<u8>,
+) -> Result<Ran, AllocError> {
+    let mut words = Vec::new(alloc);
+    for word in line.split_whitespace() {
+        words.push(String::from_str(alloc, word)?)?;
+    }
+    let mut source = SureSource::new(file, 1000);
+    let mut out = SureSink::new(alloc, 100000);
+    let mut err = SureSink::new(alloc, 7);
+    let outcome = run(
+        rt,
+        alloc,
+        &words,
+        &mut source,
+        &mut out,
+        &mut err,
+        &IdleGate,
+    );
+    Ok(Ran { outcome, out, err })
+}
+
+/// One row of a table of runs: the geometry, the words, the status, and the one text that is sent.
+fn check<R: Threads + Sync + Abort>(
+    rt: &R,
+    alloc: Global,
+    line: &str,
+    words: &[u32],
+    status: Status,
+    text: &str,
+) -> Result<(), AllocError> {
+    let Ran { outcome, out, err } = run_on(rt, alloc, line, wrap(alloc, words)?)?;
+    assert_eq!(rt; outcome.status, status, "{line}");
+    assert!(rt; outcome.table.as_slice().is_empty());
+    assert!(rt; outcome.jobs.as_slice().is_empty());
+    let (told, silent) = if status == Status::Done {
+        (out, err)
+    } else {
+        (err, out)
+    };
+    assert_eq!(rt; told.sent(), text.as_bytes());
+    assert!(rt; silent.sent().is_empty());
+    Ok(())
+}
+
+const SMALL: &str = "classify --line 16 --sets 1 --ways 1";
+
+#[test]
+fn straight_programs_are_classified(rt: HostRuntime) -> Result<(), Fail> {
+    let two = "0x00010000 always-miss\n0x00010004 always-hit\n";
+    let alloc = rt.alloc();
+    check(&rt, alloc, SMALL, &[0x13, 0x100073], Status::Done, two)?;
+    let most = "classify --ways 16 --sets 4096";
+    check(&rt, alloc, most, &[0x13, 0x100073], Status::Done, two)?;
+    let least = "classify --ways 1 --line 4 --sets 1";
+    check(
+        &rt,
+        alloc,
+        least,
+        &[0x100073],
+        Status::Done,
+        "0x00010000 always-miss\n",
+    )?;
+    let behind = "0x00010000 always-miss\n0x00010004-0x00010004 unreachable\n";
+    check(
+        &rt,
+        alloc,
+        least,
+        &[0x100073, 0x100073],
+        Status::Done,
+        behind,
+    )?;
+    let far = "0x00010000 always-miss\n0x00010004-0x0001000c unreachable\n";
+    check(&rt, alloc, least, &[0x100073, 0, 1, 2], Status::Done, far)?;
+    Ok(())
+}
+
+#[test]
+fn each_refusal_has_its_text(rt: HostRuntime) -> Result<(), Fail> {
+    let alloc = rt.alloc();
+    let jump = Status::Flow(FlowFault::NotBuilt { at: 0x10000 });
+    check(
+        &rt,
+        alloc,
+        SMALL,
+        &[0x6f],
+        jump,
+        "icache: not built yet at 0x00010000\n",
+    )?;
+    let branch = Status::Flow(FlowFault::NotBuilt { at: 0x10004 });
+    let loops = [0x13, 0xfe051ee3, 0x100073];
+    check(
+        &rt,
+        alloc,
+        SMALL,
+        &loops,
+        branch,
+        "icache: not built yet at 0x00010004\n",
+    )?;
+    let left = Status::Flow(FlowFault::BadTarget {
+        at: 0x10000,
+        target: 0x10004,
+    });
+    let text = "icache: bad target 0x00010004 at 0x00010000\n";
+    check(&rt, alloc, SMALL, &[0x13], left, text)?;
+    let form = Status::Elf(ElfFault::FormNotBuilt);
+    check(
+        &rt,
+        alloc,
+        SMALL,
+        &[],
+        form,
+        "icache: file form not built yet\n",
+    )?;
+    for line in [
+        "",
+        "--help",
+        "classify --line 12",
+        "classify --ways 0",
+        "graph",
+    ] {
+        check(&rt, alloc, line, &[0x13, 0x100073], Status::Usage, USAGE)?;
+    }
+    Ok(())
+}
+
+#[test]
+fn a_file_that_is_empty_or_too_big_is_refused(rt: HostRuntime) -> Result<(), Fail> {
+    let Ran { outcome, out, err } = run_on(&rt, rt.alloc(), SMALL, Vec::new(rt.alloc()))?;
+    assert_eq!(rt; outcome.status, Status::Elf(ElfFault::FormNotBuilt));
+    assert!(rt; out.sent().is_empty());
+    assert_eq!(rt; err.sent(), b"icache: file form not built yet\n".as_slice());
+    let zeros = vec![in rt.alloc(); 0; 16777217]?;
+    let Ran { outcome, out, err } = run_on(&rt, rt.alloc(), SMALL, zeros)?;
+    assert_eq!(rt; outcome.status, Status::FileTooBig);
+    assert!(rt; out.sent().is_empty());
+    assert_eq!(rt;
+        err.sent(),
+        b"icache: file above 16777216 bytes\n".as_slice()
+    );
+    Ok(())
+}
+
+/// How many lines end in a text.
+fn lines_with(text: &[u8], end: &str) -> usize {
+    text.split(|byte| *byte == b'\n')
+        .filter(|line| line.ends_with(end.as_bytes()))
+        .count()
+}
+
+#[test]
+fn the_greatest_programs_are_classified(rt: HostRuntime) -> Result<(), Fail> {
+    let alloc = rt.alloc();
+    let words = nops(alloc, 65535, 0x100073)?;
+    let file = wrap(alloc, &words)?;
+    let long = run_on(&rt, alloc, "classify --line 256 --sets 16 --ways 1", file)?;
+    assert_eq!(rt; long.outcome.status, Status::Done);
+    assert_eq!(rt; lines_with(long.out.sent(), "00 always-miss"), 1024);
+    assert_eq!(rt; lines_with(long.out.sent(), "always-hit"), 64512);
+    let words = nops(alloc, 1023, 0x100073)?;
+    let file = wrap(alloc, &words)?;
+    let wide = run_on(&rt, alloc, "classify --line 4 --sets 1 --ways 4", file)?;
+    assert_eq!(rt; wide.outcome.status, Status::Done);
+    assert_eq!(rt; lines_with(wide.out.sent(), "always-miss"), 1024);
+    assert_eq!(rt; lines_with(wide.out.sent(), "always-hit"), 0);
+    Ok(())
+}
