@@ -3,6 +3,9 @@ pub mod Paths
 pub mod Verdicts
 pub mod Lines
 pub mod Reported
+pub mod Blocks
+pub mod Layers
 pub mod Refused
+pub mod Accepted
 pub mod Kept
 pub mod Wrapped

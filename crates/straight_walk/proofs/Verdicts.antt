@@ -10,7 +10,7 @@ use Rattle.flow_spec.specs.Successors.{successors}
 use Rattle.report_spec.specs.Right.{EndsIn, Fetches, IsRight, fetches_of}
 use Rattle.report_spec.specs.Report.{IsAt, IsUnreached}
 use Rattle.straight_walk.specs.Straight.{fetched, verdict_of}
-use Rattle.straight_walk.proofs.Paths.{IsRun, straight, path_is, straight_is_path, fetches-straight, head_is}
+use Rattle.straight_walk.proofs.Paths.{IsRun, straight, run_leads, path_is, straight_is_path, fetches-straight, head_is}
 
 -- a path that ends at the i-th word is the straight one
 path_at : (image : Image) (last i : ℕ) → IsRun image last → (path : List Configuration)
@@ -38,7 +38,7 @@ some_path image last i run within = (
     last = configuration [] (image.entry + 4 * i);
     earlier = straight image.entry i;
     path_is = refl;
-    is_path = straight_is_path image last i run within;
+    is_path = straight_is_path _ image.entry last (run_leads image last run) i within;
     ends = refl;
   },
   sym (fetches-straight image.entry (suc i)),
