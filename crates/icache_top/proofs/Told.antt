@@ -14,11 +14,11 @@ use Rattle.straight_walk.specs.Straight.{IsOneBlock, IsReportedBy, lines_of}
 use Rattle.straight_walk.proofs.Wrapped.{one_block}
 use Rattle.top_words.specs.declared.status.Status.{Status}
 use Rattle.top_words.specs.Status.{of_flow}
-use Rattle.icache_top.specs.Answer.{IsReportOf, Tells, status_of}
+use Rattle.icache_top.specs.Answer.{IsImageOf, IsReportOf, Tells, status_of}
 
 -- a file that was read and walked: its one block, and what the report is made of
 pub record IsWalked (file : List ℕ) (image : Image) (g : Geometry) (hits : List Bool) (entry count : ℕ) : Type 0 where
-  pub image_is : image_of file ≡ Ok image
+  pub is_image : IsImageOf file image
   pub block : IsOneBlock image count
   pub entry_is : entry ≡ image.entry
   pub reported : IsReportedBy image g count hits
@@ -35,7 +35,7 @@ walked file image g g' hits hits' entry count image_is form entry_is count_is sa
     let Shape : Geometry → Type 0 = λ g. IsReportedBy image g count hits in
     let Hits : List Bool → Type 0 = λ hits. IsReportedBy image g count hits in
     record {
-      image_is = image_is;
+      is_image = record { wrapped = form.0; image_is = image_is };
       block = subst Block words block;
       entry_is = entry_is;
       reported = subst Hits (sym same_hits) (subst Shape same_geometry (subst Count words (reported (words_in file) block)));
@@ -44,8 +44,13 @@ walked file image g g' hits hits' entry count image_is form entry_is count_is sa
 -- the lines that are sent are a report of the file
 pub report_of : (file : List ℕ) (image : Image) (g : Geometry) (hits : List Bool) (entry count : ℕ)
     → IsWalked file image g hits entry count → IsReportOf g file (text_of (lines_of entry count hits))
-report_of file image g hits entry count walk =
-    (image, walk.image_is, (lines_of image.entry count hits, ap (λ entry. text_of (lines_of entry count hits)) walk.entry_is, walk.reported.lines))
+report_of file image g hits entry count walk = record {
+  image = image;
+  is_image = walk.is_image;
+  layers = walk.reported.layers;
+  accepted = walk.reported.accepted;
+  report = (lines_of image.entry count hits, ap (λ entry. text_of (lines_of entry count hits)) walk.entry_is, walk.reported.lines);
+}
 
 pub room : (file : List ℕ) (image : Image) (g : Geometry) (hits : List Bool) (entry count : ℕ)
     → IsWalked file image g hits entry count → entry + 4 * count < 2 ^ 32
@@ -60,23 +65,23 @@ refused_of : (image : Image) (fault : FlowFault) → (fault ≡ flow.OutOfMemory
 refused_of image fault other (inl memory) = absurd (other memory)
 refused_of image fault other (inr refused) = refused
 
-fault_told : (g : Geometry) (file : List ℕ) (image : Image) (s : Option (List ℕ)) (fault : FlowFault) → image_of file ≡ Ok image
+fault_told : (g : Geometry) (file : List ℕ) (image : Image) (s : Option (List ℕ)) (fault : FlowFault) → IsImageOf file image
     → Refuses image fault → Tells g file (of_flow fault) s s
 fault_told g file image s flow.OutOfMemory is refuses = inl (Keeps-refl s)
-fault_told g file image s (flow.BadEntry entry) is refuses = ((image, is, refused_of image _ (λ e. cc) refuses), Keeps-refl s)
-fault_told g file image s (flow.Illegal at word) is refuses = ((image, is, refused_of image _ (λ e. cc) refuses), Keeps-refl s)
-fault_told g file image s (flow.ComputedJump at) is refuses = ((image, is, refused_of image _ (λ e. cc) refuses), Keeps-refl s)
-fault_told g file image s (flow.BadTarget at target) is refuses = ((image, is, refused_of image _ (λ e. cc) refuses), Keeps-refl s)
-fault_told g file image s (flow.Recursion at) is refuses = ((image, is, refused_of image _ (λ e. cc) refuses), Keeps-refl s)
-fault_told g file image s (flow.TooManyFetches limit) is refuses = ((image, is, refused_of image _ (λ e. cc) refuses), Keeps-refl s)
-fault_told g file image s (flow.NotBuilt at) is refuses = ((image, is, refused_of image _ (λ e. cc) refuses), Keeps-refl s)
+fault_told g file image s (flow.BadEntry entry) is refuses = (record { image = image; is_image = is; refused = refused_of image _ (λ e. cc) refuses }, Keeps-refl s)
+fault_told g file image s (flow.Illegal at word) is refuses = (record { image = image; is_image = is; refused = refused_of image _ (λ e. cc) refuses }, Keeps-refl s)
+fault_told g file image s (flow.ComputedJump at) is refuses = (record { image = image; is_image = is; refused = refused_of image _ (λ e. cc) refuses }, Keeps-refl s)
+fault_told g file image s (flow.BadTarget at target) is refuses = (record { image = image; is_image = is; refused = refused_of image _ (λ e. cc) refuses }, Keeps-refl s)
+fault_told g file image s (flow.Recursion at) is refuses = (record { image = image; is_image = is; refused = refused_of image _ (λ e. cc) refuses }, Keeps-refl s)
+fault_told g file image s (flow.TooManyFetches limit) is refuses = (record { image = image; is_image = is; refused = refused_of image _ (λ e. cc) refuses }, Keeps-refl s)
+fault_told g file image s (flow.NotBuilt at) is refuses = (record { image = image; is_image = is; refused = refused_of image _ (λ e. cc) refuses }, Keeps-refl s)
 
 status_is : (r : Result (Unit {0}) Status) (status : Status) → IsErrAnd r (λ s. s ≡ status) → status_of r ≡ status
 status_is (Ok done) status h = absurd h
 status_is (Err s) status h = h
 
 pub flow_told : (g : Geometry) (file : List ℕ) (image : Image) (s : Option (List ℕ)) (fault : FlowFault) (r : Result (Unit {0}) Status)
-    → image_of file ≡ Ok image → Refuses image fault → IsErrAnd r (λ s. s ≡ of_flow fault) → Tells g file (status_of r) s s
+    → IsImageOf file image → Refuses image fault → IsErrAnd r (λ s. s ≡ of_flow fault) → Tells g file (status_of r) s s
 flow_told g file image s fault r is refuses gives =
     let P : Status → Type 0 = λ status. Tells g file status s s in
     subst P (sym (status_is r (of_flow fault) gives)) (fault_told g file image s fault is refuses)

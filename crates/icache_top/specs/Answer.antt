@@ -9,7 +9,8 @@ use Rattle.elf_spec.specs.Wrapped.{IsWrapped}
 use Rattle.elf_spec.specs.declared.fault.ElfFault.{ElfFault}
 use Rattle.elf_spec.specs.declared.fault.ElfFault.TheVariants as elf
 use Rattle.flow_spec.specs.declared.fault.FlowFault.{FlowFault}
-use Rattle.flow_spec.specs.Acceptance.{IsRefused}
+use Rattle.flow_spec.specs.Configuration.{Configuration}
+use Rattle.flow_spec.specs.Acceptance.{Step, IsAccepted, IsRefused}
 use Rattle.flow_spec.specs.Straight.{built_successors}
 use Rattle.cache_spec.specs.Geometry.{Geometry}
 use Rattle.report_spec.specs.Report.{IsReport}
@@ -26,18 +27,32 @@ file_limit = 16777216
 abbrev pub Reads : Option (List ℕ) → Option (List ℕ) → List ℕ → Type 0
 Reads left now file = Consumes left now file × IsAtEnd now
 
--- the text is a report of the file at a geometry
-abbrev pub IsReportOf : Geometry → List ℕ → List ℕ → Type 0
-IsReportOf g file text = (image : Image) × (image_of file ≡ Ok image) × IsReport image image.entry g false text
+-- the file is of the one form that is read today, and this is its image
+pub record IsImageOf (file : List ℕ) (image : Image) : Type 0 where
+  pub wrapped : IsWrapped file
+  pub image_is : image_of file ≡ Ok image
+
+-- the steps of the words that are followed today, from the image's own entry
+abbrev pub step_of : Image → Step
+step_of image = built_successors image image.entry
+
+-- the program of the file is accepted, and the text is its report at a geometry
+pub record IsReportOf (g : Geometry) (file text : List ℕ) : Type 0 where
+  pub image : Image
+  pub is_image : IsImageOf file image
+  pub layers : List (List Configuration)
+  pub accepted : IsAccepted (step_of image) image image.entry layers
+  pub report : IsReport image image.entry g false text
 
 -- the file isn't read as an executable, and this is why
 abbrev pub HasElfFault : List ℕ → ElfFault → Type 0
 HasElfFault file fault = (fault ≡ elf.FormNotBuilt) × (IsWrapped file → ⊥)
 
 -- the program of the file isn't accepted, and this is why
-abbrev pub HasFlowFault : List ℕ → FlowFault → Type 0
-HasFlowFault file fault =
-    (image : Image) × (image_of file ≡ Ok image) × IsRefused (built_successors image image.entry) image image.entry fault
+pub record HasFlowFault (file : List ℕ) (fault : FlowFault) : Type 0 where
+  pub image : Image
+  pub is_image : IsImageOf file image
+  pub refused : IsRefused (step_of image) image image.entry fault
 
 -- what a status says of the file that was read, and of what the sink got
 abbrev pub Tells : Geometry → List ℕ → Status → Option (List ℕ) → Option (List ℕ) → Type 0

@@ -7,7 +7,7 @@ use Rattle.flow_spec.specs.Configuration.{Configuration}
 use Rattle.flow_spec.specs.Straight.{built_successors}
 use Rattle.straight_walk.specs.Straight.{IsOneBlock, ArePlain}
 use Rattle.straight_walk.proofs.Paths.{Leads, IsRow, row_leads, start_is}
-use Rattle.straight_walk.proofs.Reported.{text_place, place_text}
+use Rattle.straight_walk.proofs.BlockText.{text_place, place_text}
 
 -- the word before the entry isn't in the text
 entry_alone : (image : Image) (count : ℕ) → IsOneBlock image count → is_second_half image image.entry ≡ false

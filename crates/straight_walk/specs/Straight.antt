@@ -4,6 +4,9 @@ use Rattle.elf_spec.specs.Image.{Image}
 use Rattle.elf_spec.specs.Word.{word_at}
 use Rattle.cache_spec.specs.Geometry.{Geometry}
 use Rattle.cache_spec.specs.Contents.{ends_in_hit}
+use Rattle.flow_spec.specs.Configuration.{Configuration}
+use Rattle.flow_spec.specs.Straight.{built_successors}
+use Rattle.flow_spec.specs.Acceptance.{IsAccepted}
 use Rattle.report_spec.specs.Report.{AreByAddress}
 use Rattle.report_spec.specs.declared.line.Line.{Line}
 use Rattle.report_spec.specs.declared.line.Line.TheVariants.{At, Unreachable}
@@ -56,7 +59,9 @@ rest_lines entry count n =
 abbrev pub lines_of : ℕ → ℕ → List Bool → List Line
 lines_of entry count hits = fetched_lines entry hits ++ rest_lines entry count (length hits)
 
--- there are as many fetches as words at most, and the lines for these hits are a report
+-- the program is accepted, there are as many fetches as words at most, and the lines for these hits are a report
 pub record IsReportedBy (image : Image) (g : Geometry) (count : ℕ) (hits : List Bool) : Type 0 where
+  pub layers : List (List Configuration)
+  pub accepted : IsAccepted (built_successors image image.entry) image image.entry layers
   pub few : length hits ≤ count
   pub lines : AreByAddress image image.entry g (lines_of image.entry count hits)

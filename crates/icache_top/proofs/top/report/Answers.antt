@@ -14,7 +14,7 @@ walk-requires-clause-block g c =
 pub returns-in_err-hits-clause-told : goal.returns-in_err-hits-clause-told
 returns-in_err-hits-clause-told g c =
     flow_told c.args.geometry.now c.args.file.items c.in_ok-image.image (g.O.Sink.sent c.args.out.now) c.in_err-hits.field-0.0
-    c.from_residual-in_err-hits.result c.in_ok-image.ensures.image c.in_err-hits.ensures.refused c.from_residual-in_err-hits.ensures.1
+    c.from_residual-in_err-hits.result (record { wrapped = c.in_ok-image.ensures.form.0; image_is = c.in_ok-image.ensures.image }) c.in_err-hits.ensures.refused c.from_residual-in_err-hits.ensures.1
 
 pub send_report-requires-clause-room : goal.send_report-requires-clause-room
 send_report-requires-clause-room g c =

@@ -7,7 +7,8 @@ use Rattle.cache_spec.specs.Geometry.{Geometry}
 use Rattle.cache_spec.specs.Contents.{ends_in_hit}
 use Rattle.straight_walk.specs.Straight.{IsOneBlock, ArePlain, fetched, hits_of, IsReportedBy}
 use Rattle.straight_walk.specs.Cached.{Keeps}
-use Rattle.straight_walk.proofs.Reported.{reported, text_place, place_text}
+use Rattle.straight_walk.proofs.Reported.{reported}
+use Rattle.straight_walk.proofs.BlockText.{text_place, place_text}
 use Rattle.straight_walk.proofs.Refused.{not_built, bad_target}
 use Rattle.flow_spec.specs.Straight.{built_successors}
 use Rattle.flow_spec.specs.Acceptance.{IsRefused}
