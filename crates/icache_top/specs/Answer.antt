@@ -1,6 +1,6 @@
 -- What a run answers: for each status, what it says of the words, of the bytes that the source had, and of the bytes
 -- that the sink got. This project's own statuses; their order is that in which the causes are met.
-use Rattle.std.specs.Prelude.{◌≡◌, ◌⊎◌, ℕ, ◌+◌, false, List, Option, Some, Result, Ok, Err}
+use Rattle.std.specs.Prelude.{◌≡◌, ◌⊎◌, ℕ, ◌+◌, false, List, Option, Some, Result, Ok, Err, ◌<◌, ◌≤◌, length}
 use Rattle.std.specs.Io.KnownBytes.{Appends, Keeps, Consumes, IsAtEnd}
 use Rattle.byte_port.specs.Count.{Rose}
 use Rattle.byte_port.specs.Stream.{SendsPrefix, Takes}
@@ -23,9 +23,9 @@ use Rattle.top_words.specs.declared.status.Status.TheVariants.{Done, Usage, OutO
 abbrev pub file_limit : ℕ
 file_limit = 16777216
 
--- all bytes that were left are the file, and none is left
+-- all bytes that were left are the file, none is left, and they are no more than the limit
 abbrev pub Reads : Option (List ℕ) → Option (List ℕ) → List ℕ → Type 0
-Reads left now file = Consumes left now file × IsAtEnd now
+Reads left now file = Consumes left now file × IsAtEnd now × (length file ≤ file_limit)
 
 -- the file is of the one form that is read today, and this is its image
 pub record IsImageOf (file : List ℕ) (image : Image) : Type 0 where
@@ -84,6 +84,31 @@ Answers words WriteFault left now old new = Read words WriteFault left now old n
 Answers words (Elf fault) left now old new = Read words (Elf fault) left now old new
 Answers words (Flow fault) left now old new = Read words (Flow fault) left now old new
 Answers words (TooManyBlocks set count) left now old new = ⊥
+
+-- the words give settings, the file is within the limit, and the status says this of it
+abbrev pub Judges : List (List ℕ) → List ℕ → Status → Option (List ℕ) → Option (List ℕ) → Type 0
+Judges words file status old new =
+    (settings : Settings) × (settings_of words ≡ Some settings) × (length file ≤ file_limit) × Tells settings.geometry file status old new
+
+-- what a status says of a source that told its bytes at the start
+abbrev pub SaysOf : List (List ℕ) → List ℕ → Status → Option (List ℕ) → Option (List ℕ) → Type 0
+SaysOf words file Done old new = Judges words file Done old new
+SaysOf words file WriteFault old new = Judges words file WriteFault old new
+SaysOf words file (Elf fault) old new = Judges words file (Elf fault) old new
+SaysOf words file (Flow fault) old new = Judges words file (Flow fault) old new
+SaysOf words file FileTooBig old new = file_limit < length file
+SaysOf words file Usage old new = Unit {0}
+SaysOf words file OutOfMemory old new = Unit {0}
+SaysOf words file ReadFault old new = Unit {0}
+SaysOf words file (TooManyBlocks set count) old new = ⊥
+
+-- the answer to words that give settings, where the file is told and no port fails: a report, the one refusal of the
+-- file, or want of memory
+abbrev pub Decides : List (List ℕ) → List ℕ → Status → Option (List ℕ) → Option (List ℕ) → Type 0
+Decides words file Usage old new = ⊥
+Decides words file ReadFault old new = ⊥
+Decides words file WriteFault old new = ⊥
+Decides words file status old new = SaysOf words file status old new
 
 abbrev pub status_of : Result (Unit {0}) Status → Status
 status_of (Ok done) = Done

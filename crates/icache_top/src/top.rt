@@ -1,10 +1,11 @@
-ghost use Rattle.std.specs.Prelude.{◌≡◌, ◌≢◌, ◌↔◌, ℕ, ◌≤◌, [], None, IsNone, IfOk, IfErr, length};
+ghost use Rattle.std.specs.Prelude.{◌≡◌, ◌≢◌, ◌↔◌, ℕ, ◌≤◌, List, [], Some, None, IsNone, IsSome, IfSome, IfOk, IfErr, length};
 ghost use Rattle.std.specs.Io.KnownBytes.{Keeps};
+ghost use Rattle.byte_port.specs.Count.{Rose};
 ghost use Rattle.command_spec.specs.Settings.{settings_of};
 ghost use Rattle.top_words.specs.Views.{bytes_of};
 ghost use Rattle.top_words.specs.FaultText.{fault_text};
 ghost use Rattle.straight_walk.specs.Straight.{IsOneBlock};
-ghost use Rattle.icache_top.specs.Answer.{Answers, CountsOut, CountsSource, Reports, Tells, status_of, file_limit};
+ghost use Rattle.icache_top.specs.Answer.{Answers, CountsOut, CountsSource, Decides, Reports, SaysOf, Tells, status_of, file_limit};
 
 use crate::report::send_report;
 use crate::{Gate, Jobs, NodeWords, Outcome, Status};
@@ -22,6 +23,7 @@ const FILE_LIMIT: usize = 16777216;
 
 /// All that the program does: reads the words, reads the source to its end, and sends the answer to `out`. At every
 /// status but `Done` the fault's text goes to `err`. The words lack the program's name.
+#[tactic(auto, using(crate::proofs::Complete::says, crate::proofs::Complete::decides))]
 pub fn run<R: Threads + Sync, S: Source, O: Sink, E: Sink, G: Gate + Sync>(
     rt: &R,
     alloc: Global,
@@ -37,6 +39,13 @@ pub fn run<R: Threads + Sync, S: Source, O: Sink, E: Sink, G: Gate + Sync>(
     // What each status says of the file, and of what was sent.
     ensures answer { Answers (bytes_of words.now) result.status
         (S.left source.old) (S.left source.new) (O.sent out.old) (O.sent out.new) }
+
+    // The same of the bytes that the source tells at the start, and that one of these answers comes where no port fails.
+    ensures says { IfSome (S.left source.old) (λ file. SaysOf (bytes_of words.now) file result.status
+        (O.sent out.old) (O.sent out.new)) }
+    ensures complete { (file : List ℕ) → S.left source.old ≡ Some file → IsSome (settings_of (bytes_of words.now))
+        → (Rose (S.faults source.old) (S.faults source.new) → ⊥) → (Rose (O.faults out.old) (O.faults out.new) → ⊥)
+        → Decides (bytes_of words.now) file result.status (O.sent out.old) (O.sent out.new) }
 
     // A fault only where its count rose, and no fault passed over.
     ensures reads { CountsSource result.status (S.faults source.old) (S.faults source.new) }
