@@ -1,0 +1,7 @@
+pub mod Programs
+pub mod Files
+pub mod Flows
+pub mod Caches
+pub mod Texts
+pub mod Orders
+pub mod Ways

@@ -1,0 +1,56 @@
+-- Small programs as images, and configurations of them.
+use Rattle.std.specs.Prelude.{ℕ, ◌*◌, List, [], ◌∷◌, ◌++◌, length, flat_map}
+use Rattle.std.specs.Int.{w32, to_le_bytes}
+use Rattle.riscv_spec.specs.declared.kind.Link.{Link}
+use Rattle.flow_spec.specs.declared.frame.Frame.{Frame}
+use Rattle.flow_spec.specs.Configuration.{Configuration, configuration}
+use Rattle.elf_spec.specs.Image.{Image}
+use Rattle.elf_spec.specs.Wrapped.{head_for}
+
+-- a file of these words
+abbrev pub file_of : List ℕ → List ℕ
+file_of words = head_for (4 * length words) ++ flat_map (to_le_bytes w32) words
+
+-- the image of these words, the first of which lies at 0x10000
+abbrev pub program_of : List ℕ → Image
+program_of words = record {
+  file = file_of words;
+  segments = record { at = 0x10000; size = 4 * length words; offset = 84 } ∷ [];
+  entry = 0x10000;
+}
+
+-- an open call
+abbrev pub frame : ℕ → Link → ℕ → Frame
+frame back link callee = record { back = back; link = link; callee = callee }
+
+-- an address with no call open
+abbrev pub at : ℕ → Configuration
+at address = configuration [] address
+
+-- an address with one call open
+abbrev pub in_call : Frame → ℕ → Configuration
+in_call opened address = configuration (opened ∷ []) address
+
+-- a word and a branch back to it by 4 bytes, with a stop behind
+abbrev pub loop : List ℕ
+loop = 0x00000013 ∷ 0xfe051ee3 ∷ 0x00100073 ∷ []
+
+-- two calls of one function, a stop, and the function, which returns
+abbrev pub two_calls : List ℕ
+two_calls = 0x00c000ef ∷ 0x008000ef ∷ 0x00100073 ∷ 0x00008067 ∷ []
+
+-- a pair that calls the last word, a stop, and a return
+abbrev pub pair_call : List ℕ
+pair_call = 0x00000097 ∷ 0x00c080e7 ∷ 0x00100073 ∷ 0x00008067 ∷ []
+
+-- a branch onto the second half of a pair
+abbrev pub branch_onto_pair : List ℕ
+branch_onto_pair = 0x00000463 ∷ 0x00000097 ∷ 0x00c080e7 ∷ []
+
+-- a call by x5, a stop, and a return by x5
+abbrev pub call_by_x5 : List ℕ
+call_by_x5 = 0x008002ef ∷ 0x00100073 ∷ 0x00028067 ∷ []
+
+-- the same with a return by x1
+abbrev pub crossed_links : List ℕ
+crossed_links = 0x008002ef ∷ 0x00100073 ∷ 0x00008067 ∷ []

@@ -1,0 +1,65 @@
+ghost use Rattle.std.specs.Prelude.{◌≡◌, [], ◌∷◌, map, Ok, Err};
+ghost use Rattle.cache_spec.specs.Contents.{ends_in_hit};
+ghost use Rattle.cache_spec.specs.Lru.{touch, is_in};
+ghost use Rattle.elf_spec.specs.Image.{image_of};
+ghost use Rattle.elf_spec.specs.Word.{word_at};
+ghost use Rattle.elf_spec.specs.Wrapped.{IsWrapped, wrapped_image};
+ghost use Rattle.flow_spec.specs.Configuration.{start_of};
+ghost use Rattle.flow_spec.specs.Order.{configuration_cmp};
+ghost use Rattle.flow_spec.specs.Successors.{successors};
+ghost use Rattle.flow_spec.specs.Transfer.{is_good_target};
+ghost use Rattle.report_spec.specs.Text.{line_text};
+ghost use Rattle.transition_spec.specs.Named.{Names};
+ghost use Rattle.transition_spec.specs.Path.{IsPath};
+ghost use Rattle.worked_examples.specs.Caches.{worked_touches, worked_hits};
+ghost use Rattle.worked_examples.specs.Files.{two_words, two_words_image, worked_places, worked_refusals};
+ghost use Rattle.worked_examples.specs.Flows.{worked_moves, worked_calls, worked_faults, worked_targets};
+ghost use Rattle.worked_examples.specs.Orders.{worked_order};
+ghost use Rattle.worked_examples.specs.Programs.{file_of, program_of, loop, branch_onto_pair};
+ghost use Rattle.worked_examples.specs.Texts.{worked_lines};
+ghost use Rattle.worked_examples.specs.Ways.{once_around, once_around_way};
+
+/// A file of two words has its image and its words, and is of the one form that is read today; files that lack a part of
+/// it or change a byte are refused.
+pub fn worked_file()
+    ensures image { image_of two_words ≡ Ok two_words_image }
+    ensures words { map (λ p. word_at two_words_image p.0) worked_places ≡ map (λ p. p.1) worked_places }
+    ensures refused { map (λ f. image_of f.0) worked_refusals ≡ map (λ f. Err f.1) worked_refusals }
+    ensures wrapped { IsWrapped two_words × (wrapped_image two_words ≡ two_words_image) }
+    ensures program { program_of (0x00000013 ∷ 0x00100073 ∷ []) ≡ two_words_image }
+{}
+
+/// Plain words, branches, jumps, calls and returns lead where they should.
+pub fn worked_flows()
+    ensures moves { map (λ f. successors (program_of f.0) 0x10000 f.1) worked_moves ≡ map (λ f. f.2) worked_moves }
+    ensures calls { map (λ f. successors (program_of f.0) 0x10000 f.1) worked_calls ≡ map (λ f. f.2) worked_calls }
+    ensures targets { map (λ t. is_good_target (program_of branch_onto_pair) t.0) worked_targets ≡ map (λ t. t.1) worked_targets }
+{}
+
+/// Words that lead nowhere have their faults.
+pub fn worked_faults()
+    ensures { map (λ f. successors (program_of f.0) 0x10000 f.1) worked_faults ≡ map (λ f. f.2) worked_faults }
+{}
+
+/// A set of two ways over five touches, and fetches that end in a hit or in a miss.
+pub fn worked_caches()
+    ensures before { map (λ t. is_in t.0 t.1) worked_touches ≡ map (λ t. t.2) worked_touches }
+    ensures after { map (λ t. touch 2 t.0 t.1) worked_touches ≡ map (λ t. t.3) worked_touches }
+    ensures hits { map (λ h. ends_in_hit h.0 h.1) worked_hits ≡ map (λ h. h.2) worked_hits }
+{}
+
+/// Each kind of line has its text.
+pub fn worked_texts()
+    ensures { map (λ l. line_text l.0) worked_lines ≡ map (λ l. l.1) worked_lines }
+{}
+
+/// Configurations are ordered by address, then by frames, of which a prefix comes first.
+pub fn worked_order()
+    ensures { map (λ o. configuration_cmp o.0 o.1) worked_order ≡ map (λ o. o.2) worked_order }
+{}
+
+/// Once around the loop is a path, and three steps with the one choice `t` name it.
+pub fn worked_way()
+    ensures path { IsPath (successors (program_of loop) 0x10000) (start_of 0x10000) once_around }
+    ensures named { Names (successors (program_of loop) 0x10000) once_around_way once_around }
+{}

@@ -1,0 +1,12 @@
+//! Small worked programs, against which the definitions are reviewed.
+//!
+//! Each function is a law: it does nothing, and its contract says what the definitions of files, words, successors,
+//! caches, texts, orders and ways give at examples that were worked out by hand. The checker computes both sides, so
+//! that a slip in a definition shows here. It stands on the crates of definitions alone, and no layer stands on it.
+#![tactic(auto)]
+
+mod laws;
+
+pub use laws::{
+    worked_caches, worked_faults, worked_file, worked_flows, worked_order, worked_texts, worked_way,
+};
