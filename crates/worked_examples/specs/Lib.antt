@@ -1,5 +1,6 @@
 pub mod Programs
 pub mod Files
+pub mod Segments
 pub mod Flows
 pub mod Caches
 pub mod Texts

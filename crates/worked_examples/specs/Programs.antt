@@ -54,3 +54,15 @@ call_by_x5 = 0x008002ef ∷ 0x00100073 ∷ 0x00028067 ∷ []
 -- the same with a return by x1
 abbrev pub crossed_links : List ℕ
 crossed_links = 0x008002ef ∷ 0x00100073 ∷ 0x00008067 ∷ []
+
+-- a call by x1 of a function that calls another by x5
+abbrev pub nested : List ℕ
+nested = 0x008000ef ∷ 0x00100073 ∷ 0x008002ef ∷ 0x00008067 ∷ 0x00028067 ∷ []
+
+-- a jump to the last word, which calls the word before it, a return
+abbrev pub call_at_end : List ℕ
+call_at_end = 0x0080006f ∷ 0x00008067 ∷ 0xffdff0ef ∷ []
+
+-- a call of a function that calls itself
+abbrev pub calls_itself : List ℕ
+calls_itself = 0x008000ef ∷ 0x00100073 ∷ 0x000000ef ∷ 0x00008067 ∷ []

@@ -16,6 +16,7 @@ ghost use Rattle.worked_examples.specs.Files.{two_words, two_words_image, worked
 ghost use Rattle.worked_examples.specs.Flows.{worked_moves, worked_calls, worked_faults, worked_targets};
 ghost use Rattle.worked_examples.specs.Orders.{worked_order};
 ghost use Rattle.worked_examples.specs.Programs.{file_of, program_of, loop, branch_onto_pair};
+ghost use Rattle.worked_examples.specs.Segments.{segments_of, worked_segments, worked_edges};
 ghost use Rattle.worked_examples.specs.Texts.{worked_lines};
 ghost use Rattle.worked_examples.specs.Ways.{once_around, once_around_way};
 
@@ -29,6 +30,13 @@ pub fn worked_file()
     ensures program { program_of (0x00000013 ∷ 0x00100073 ∷ []) ≡ two_words_image }
 {}
 
+/// Executable segments are kept in rising order of address, other program headers are passed over, and a word lies in
+/// one segment.
+pub fn worked_segments()
+    ensures segments { map (λ f. segments_of (image_of f.0)) worked_segments ≡ map (λ f. f.1) worked_segments }
+    ensures words { map (λ e. word_at e.0 e.1) worked_edges ≡ map (λ e. e.2) worked_edges }
+{}
+
 /// Plain words, branches, jumps, calls and returns lead where they should.
 pub fn worked_flows()
     ensures moves { map (λ f. successors (program_of f.0) 0x10000 f.1) worked_moves ≡ map (λ f. f.2) worked_moves }
@@ -36,7 +44,7 @@ pub fn worked_flows()
     ensures targets { map (λ t. is_good_target (program_of branch_onto_pair) t.0) worked_targets ≡ map (λ t. t.1) worked_targets }
 {}
 
-/// Words that lead nowhere have their faults.
+/// Words that lead nowhere good have their faults.
 pub fn worked_faults()
     ensures { map (λ f. successors (program_of f.0) 0x10000 f.1) worked_faults ≡ map (λ f. f.2) worked_faults }
 {}
