@@ -1,4 +1,5 @@
 pub mod Count
 pub mod Piece
 pub mod Sure
+pub mod Failing
 pub mod Stream

@@ -4,7 +4,8 @@
 //! want of memory, so that a caller can tell from the counts alone whether an answer came from the outside. Where they
 //! tell their bytes, the contracts say which bytes are left and which were sent. `ReadPort` and `WritePort` make them
 //! of any reader and writer of std, and are the edge that is trusted. `SureSource` and `SureSink` keep theirs in memory
-//! and never fail. `read_all` and `send_all` are the loops over them. Stands on std alone.
+//! and never fail; `MemSource` and `MemSink` keep theirs there too, and fail at just the calls that their maker names.
+//! `read_all` and `send_all` are the loops over them. Stands on std alone.
 #![tactic(auto)]
 
 ghost use Rattle.std.specs.Prelude.{◌≡◌, List, ℕ, [], Option, Some, IfOk};
@@ -13,10 +14,12 @@ ghost use Rattle.std.specs.Io.KnownBytes.{ReadConsumes, WriteAppends};
 ghost use Rattle.byte_port.specs.Count.{CountsReads, CountsFaults, CountsRefusals};
 ghost use Rattle.byte_port.specs.Piece.{KeepsRest, TakesSome};
 
+mod failing;
 mod memory;
 mod port;
 mod streams;
 
+pub use failing::{MemSink, MemSource};
 pub use memory::{SureSink, SureSource};
 pub use port::{ReadPort, WritePort};
 pub use streams::{ReadStop, read_all, send_all};
