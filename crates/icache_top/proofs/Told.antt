@@ -1,5 +1,5 @@
 -- What a status says of the file that was read.
-use Rattle.std.proofs.Common.{◌≡◌, ◌⊎◌, ℕ, ◌+◌, ◌*◌, ◌^◌, ◌<◌, List, sym, ap, subst, arith, inl, inr}
+use Rattle.std.proofs.Common.{◌≡◌, ◌⊎◌, ℕ, ◌+◌, ◌*◌, ◌^◌, ◌<◌, List, refl, sym, subst, inl, inr}
 use Rattle.std.specs.Prelude.{Bool, Option, Ok, Err, Result, IsErrAnd}
 use Rattle.std.proofs.KnownBytes.{Keeps-refl}
 use Rattle.elf_spec.specs.Image.{Image, image_of}
@@ -13,48 +13,54 @@ use Rattle.report_spec.specs.Text.{text_of}
 use Rattle.straight_walk.specs.Straight.{IsOneBlock, IsReportedBy, lines_of}
 use Rattle.straight_walk.proofs.Wrapped.{one_block}
 use Rattle.top_words.specs.declared.status.Status.{Status}
+use Rattle.top_words.specs.declared.status.Status.TheVariants.{Done, Usage, OutOfMemory, ReadFault, WriteFault, FileTooBig, Elf, Flow, TooManyBlocks}
 use Rattle.top_words.specs.Status.{of_flow}
-use Rattle.icache_top.specs.Answer.{IsImageOf, IsReportOf, Tells, status_of}
+use Rattle.icache_top.specs.Answer.{IsImageOf, SendsText, IsReportOf, Tells, status_of}
 
--- a file that was read and walked: its one block, and what the report is made of
-pub record IsWalked (file : List ℕ) (image : Image) (g : Geometry) (hits : List Bool) (entry count : ℕ) : Type 0 where
+-- a file that was read and walked: its one block of words, and the report that its hits make
+pub record IsWalked (file : List ℕ) (image : Image) (g : Geometry) (hits : List Bool) : Type 0 where
   pub is_image : IsImageOf file image
+  pub count : ℕ
   pub block : IsOneBlock image count
-  pub entry_is : entry ≡ image.entry
   pub reported : IsReportedBy image g count hits
 
-pub walked : (file : List ℕ) (image : Image) (g g' : Geometry) (hits hits' : List Bool) (entry count : ℕ)
-    → image_of file ≡ Ok image → IsWrapped file × (image ≡ wrapped_image file) → entry ≡ image.entry
-    → ((n : ℕ) → IsOneBlock image n → count ≡ n) → g' ≡ g → hits' ≡ hits
-    → ((n : ℕ) → IsOneBlock image n → IsReportedBy image g' n hits) → IsWalked file image g hits' entry count
-walked file image g g' hits hits' entry count image_is form entry_is count_is same_geometry same_hits reported =
+pub walked : (file : List ℕ) (image : Image) (g g' : Geometry) (hits hits' : List Bool) → image_of file ≡ Ok image
+    → IsWrapped file × (image ≡ wrapped_image file) → g' ≡ g → hits' ≡ hits
+    → ((n : ℕ) → IsOneBlock image n → IsReportedBy image g' n hits) → IsWalked file image g hits'
+walked file image g g' hits hits' image_is form same_geometry same_hits reported =
     let block = one_block file image form.0 form.1 in
-    let words : words_in file ≡ count = sym (count_is (words_in file) block) in
-    let Block : ℕ → Type 0 = λ n. IsOneBlock image n in
-    let Count : ℕ → Type 0 = λ n. IsReportedBy image g' n hits in
-    let Shape : Geometry → Type 0 = λ g. IsReportedBy image g count hits in
-    let Hits : List Bool → Type 0 = λ hits. IsReportedBy image g count hits in
+    let Shape : Geometry → Type 0 = λ g. IsReportedBy image g (words_in file) hits in
+    let Hits : List Bool → Type 0 = λ hits. IsReportedBy image g (words_in file) hits in
     record {
       is_image = record { wrapped = form.0; image_is = image_is };
-      block = subst Block words block;
-      entry_is = entry_is;
-      reported = subst Hits (sym same_hits) (subst Shape same_geometry (subst Count words (reported (words_in file) block)));
+      count = words_in file;
+      block = block;
+      reported = subst Hits (sym same_hits) (subst Shape same_geometry (reported (words_in file) block));
     }
 
 -- the lines that are sent are a report of the file
-pub report_of : (file : List ℕ) (image : Image) (g : Geometry) (hits : List Bool) (entry count : ℕ)
-    → IsWalked file image g hits entry count → IsReportOf g file (text_of (lines_of entry count hits))
-report_of file image g hits entry count walk = record {
+report_of : (file : List ℕ) (image : Image) (g : Geometry) (hits : List Bool) (walk : IsWalked file image g hits)
+    → IsReportOf g file (text_of (lines_of image.entry walk.count hits))
+report_of file image g hits walk = record {
   image = image;
   is_image = walk.is_image;
   layers = walk.reported.layers;
   accepted = walk.reported.accepted;
-  report = (lines_of image.entry count hits, ap (λ entry. text_of (lines_of entry count hits)) walk.entry_is, walk.reported.lines);
+  report = (lines_of image.entry walk.count hits, refl, walk.reported.lines);
 }
 
-pub room : (file : List ℕ) (image : Image) (g : Geometry) (hits : List Bool) (entry count : ℕ)
-    → IsWalked file image g hits entry count → entry + 4 * count < 2 ^ 32
-room file image g hits entry count walk = omega (arith, walk.entry_is, walk.block.entry, walk.block.few)
+-- what the sink got of those lines
+pub text_told : (status : Status) (file : List ℕ) (image : Image) (g : Geometry) (hits : List Bool) (walk : IsWalked file image g hits)
+    (old new : Option (List ℕ)) → SendsText status old new (text_of (lines_of image.entry walk.count hits)) → Tells g file status old new
+text_told Done file image g hits walk old new sent = (_, report_of file image g hits walk, sent)
+text_told WriteFault file image g hits walk old new sent = (_, report_of file image g hits walk, sent)
+text_told OutOfMemory file image g hits walk old new sent = inr (_, report_of file image g hits walk, sent)
+text_told Usage file image g hits walk old new sent = absurd sent
+text_told ReadFault file image g hits walk old new sent = absurd sent
+text_told FileTooBig file image g hits walk old new sent = absurd sent
+text_told (Elf fault) file image g hits walk old new sent = absurd sent
+text_told (Flow fault) file image g hits walk old new sent = absurd sent
+text_told (TooManyBlocks set count) file image g hits walk old new sent = absurd sent
 
 -- a fault of the walk, as a status
 abbrev Refuses : Image → FlowFault → Type 0

@@ -54,6 +54,18 @@ pub record HasFlowFault (file : List ℕ) (fault : FlowFault) : Type 0 where
   pub is_image : IsImageOf file image
   pub refused : IsRefused (step_of image) image image.entry fault
 
+-- what the sink got of a text that was to be sent whole
+abbrev pub SendsText : Status → Option (List ℕ) → Option (List ℕ) → List ℕ → Type 0
+SendsText Done old new text = Appends old new text
+SendsText WriteFault old new text = SendsPrefix old new text
+SendsText OutOfMemory old new text = SendsPrefix old new text
+SendsText Usage old new text = ⊥
+SendsText ReadFault old new text = ⊥
+SendsText FileTooBig old new text = ⊥
+SendsText (Elf fault) old new text = ⊥
+SendsText (Flow fault) old new text = ⊥
+SendsText (TooManyBlocks set count) old new text = ⊥
+
 -- what a status says of the file that was read, and of what the sink got
 abbrev pub Tells : Geometry → List ℕ → Status → Option (List ℕ) → Option (List ℕ) → Type 0
 Tells g file Done old new = (text : List ℕ) × IsReportOf g file text × Appends old new text

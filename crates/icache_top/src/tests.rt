@@ -1,5 +1,5 @@
 use crate::{IdleGate, Outcome, Status, run};
-use byte_port::{SureSink, SureSource};
+use byte_port::{MemSink, MemSource, Sink, Source, SureSink, SureSource};
 use elf_image::ElfFault;
 use flow_spec::FlowFault;
 use std::alloc::{AllocError, Global};
@@ -51,16 +51,21 @@ struct Ran {
     err: SureSink,
 }
 
+fn words_of(alloc: Global, line: &str) -> Result<Vec<String>, AllocError> {
+    let mut words = Vec::new(alloc);
+    for word in line.split_whitespace() {
+        words.push(String::from_str(alloc, word)?)?;
+    }
+    Ok(words)
+}
+
 fn run_on(
     rt: &(impl Threads + Sync),
     alloc: Global,
     line: &str,
     file: Vec<u8>,
 ) -> Result<Ran, AllocError> {
-    let mut words = Vec::new(alloc);
-    for word in line.split_whitespace() {
-        words.push(String::from_str(alloc, word)?)?;
-    }
+    let words = words_of(alloc, line)?;
     let mut source = SureSource::new(file, 1000);
     let mut out = SureSink::new(alloc, 100000);
     let mut err = SureSink::new(alloc, 7);
@@ -219,5 +224,88 @@ fn the_greatest_programs_are_classified(rt: HostRuntime) -> Result<(), Fail> {
     assert_eq!(rt; wide.outcome.status, Status::Done);
     assert_eq!(rt; lines_with(wide.out.sent(), "always-miss"), 1024);
     assert_eq!(rt; lines_with(wide.out.sent(), "always-hit"), 0);
+    Ok(())
+}
+
+/// The status of the two words' run over ports of one's own.
+fn status_over<S: Source, O: Sink, E: Sink>(
+    rt: &(impl Threads + Sync),
+    alloc: Global,
+    source: &mut S,
+    out: &mut O,
+    err: &mut E,
+) -> Result<Status, AllocError> {
+    let words = words_of(alloc, SMALL)?;
+    Ok(run(rt, alloc, &words, source, out, err, &IdleGate).status)
+}
+
+const TWO: &str = "0x00010000 always-miss\n0x00010004 always-hit\n";
+
+#[test]
+fn each_failed_read_is_a_read_fault(rt: HostRuntime) -> Result<(), Fail> {
+    let alloc = rt.alloc();
+    for call in 0..94 {
+        let file = wrap(alloc, &[0x13, 0x100073])?;
+        let mut source = MemSource::new(file, 1, vec![in alloc; call]?);
+        let mut out = SureSink::new(alloc, 1000);
+        let mut err = SureSink::new(alloc, 1000);
+        let status = status_over(&rt, alloc, &mut source, &mut out, &mut err)?;
+        let (wanted, told, sent) = if call < 93 {
+            (Status::ReadFault, "icache: read fault\n", "")
+        } else {
+            (Status::Done, "", TWO)
+        };
+        assert_eq!(rt; status, wanted, "at {call}");
+        assert_eq!(rt; err.sent(), told.as_bytes());
+        assert_eq!(rt; out.sent(), sent.as_bytes());
+    }
+    Ok(())
+}
+
+#[test]
+fn each_failed_write_is_a_write_fault(rt: HostRuntime) -> Result<(), Fail> {
+    let alloc = rt.alloc();
+    for call in 0..45 {
+        let mut source = SureSource::new(wrap(alloc, &[0x13, 0x100073])?, 1000);
+        let mut out = MemSink::new(alloc, 1, vec![in alloc; call]?);
+        let mut err = SureSink::new(alloc, 1000);
+        let status = status_over(&rt, alloc, &mut source, &mut out, &mut err)?;
+        assert_eq!(rt; status, Status::WriteFault, "at {call}");
+        assert_eq!(rt; err.sent(), b"icache: write fault\n".as_slice());
+        assert_eq!(rt; out.sent().len() as u64, call);
+        assert!(rt; TWO.as_bytes().starts_with(out.sent()));
+    }
+    Ok(())
+}
+
+#[test]
+fn a_failing_standard_error_changes_no_status(rt: HostRuntime) -> Result<(), Fail> {
+    let alloc = rt.alloc();
+    let mut source = SureSource::new(wrap(alloc, &[0x13])?, 1000);
+    let mut out = SureSink::new(alloc, 1000);
+    let mut err = MemSink::new(alloc, 1000, vec![in alloc; 0]?);
+    let status = status_over(&rt, alloc, &mut source, &mut out, &mut err)?;
+    let left = FlowFault::BadTarget {
+        at: 0x10000,
+        target: 0x10004,
+    };
+    assert_eq!(rt; status, Status::Flow(left));
+    assert!(rt; err.sent().is_empty());
+    assert!(rt; out.sent().is_empty());
+    Ok(())
+}
+
+#[test]
+fn the_cut_of_the_bytes_changes_nothing(rt: HostRuntime) -> Result<(), Fail> {
+    let alloc = rt.alloc();
+    for piece in [1, 20, 4096] {
+        let mut source = SureSource::new(wrap(alloc, &[0x13, 0x100073])?, piece);
+        let mut out = SureSink::new(alloc, piece);
+        let mut err = SureSink::new(alloc, piece);
+        let status = status_over(&rt, alloc, &mut source, &mut out, &mut err)?;
+        assert_eq!(rt; status, Status::Done, "in pieces of {piece}");
+        assert_eq!(rt; out.sent(), TWO.as_bytes());
+        assert!(rt; err.sent().is_empty());
+    }
     Ok(())
 }

@@ -4,8 +4,9 @@ ghost use Rattle.byte_port.specs.Count.{Rose};
 ghost use Rattle.command_spec.specs.Settings.{settings_of};
 ghost use Rattle.top_words.specs.Views.{bytes_of};
 ghost use Rattle.top_words.specs.FaultText.{fault_text};
-ghost use Rattle.straight_walk.specs.Straight.{IsOneBlock};
-ghost use Rattle.icache_top.specs.Answer.{Answers, CountsOut, CountsSource, Decides, Reports, SaysOf, Tells, status_of, file_limit};
+ghost use Rattle.straight_walk.specs.Straight.{IsOneBlock, lines_of};
+ghost use Rattle.report_spec.specs.Text.{text_of};
+ghost use Rattle.icache_top.specs.Answer.{Answers, CountsOut, CountsSource, Decides, Reports, SaysOf, SendsText, Tells, status_of, file_limit};
 
 use crate::report::send_report;
 use crate::{Gate, Jobs, NodeWords, Outcome, Status};
@@ -110,7 +111,18 @@ fn report<O: Sink>(
     let image = elf_image::read(alloc, file)?;
     let mut cache = Cache::empty(alloc, geometry)?;
     let hits = walk(alloc, &image, &mut cache)?;
-    match send_report(alloc, out, image.entry(), words_in(&image), &hits) {
+    send(alloc, out, &image, &hits)
+}
+
+/// Sends the report of an image of one block of words, by the hits of its fetches.
+fn send<O: Sink>(alloc: Global, out: &mut O, image: &Image, hits: &[bool]) -> Result<(), Status>
+    requires { (count : ℕ) × IsOneBlock image.now count × (length hits.now ≤ count) }
+    ensures not_done { IfErr result (λ status. status ≢ Status.Done) }
+    ensures text { (count : ℕ) → IsOneBlock image.now count → SendsText (status_of result)
+        (O.sent out.old) (O.sent out.new) (text_of (lines_of image.now.entry count hits.now)) }
+    ensures writes { CountsOut (status_of result) (O.faults out.old) (O.faults out.new) }
+{
+    match send_report(alloc, out, image.entry(), words_in(image), hits) {
         Ok(()) => Ok(()),
         Err(SendStop::Failed) => Err(Status::WriteFault),
         Err(SendStop::OutOfMemory) => Err(Status::OutOfMemory),
