@@ -1,0 +1,3 @@
+pub mod Moves
+pub mod Fates
+pub mod Listed

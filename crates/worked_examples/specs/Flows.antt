@@ -43,6 +43,7 @@ worked_calls =
     ∷ (call_by_x5, in_call (frame 0x10004 X5 0x10008) 0x10008, Ok (at 0x10004 ∷ []))
     ∷ (nested, in_call outer 0x10008, Ok (configuration (outer ∷ inner ∷ []) 0x10010 ∷ []))
     ∷ (nested, configuration (outer ∷ inner ∷ []) 0x10010, Ok (in_call outer 0x1000c ∷ []))
+    ∷ (call_at_end, at 0x10008, Ok (in_call (frame 0x1000c X1 0x10004) 0x10004 ∷ []))
     ∷ (0x00000097 ∷ 0x00008067 ∷ [], in_call outer 0x10004, Ok (in_call outer 0x10000 ∷ []))
     ∷ (0x00000317 ∷ 0x00930067 ∷ 0x00100073 ∷ [], at 0x10004, Ok (at 0x10008 ∷ []))
     ∷ []
@@ -59,7 +60,6 @@ worked_faults =
     ∷ (call_by_x5, at 0x10008, Err (ComputedJump 0x10008))
     ∷ (0x00000063 ∷ [], at 0x10000, Err (BadTarget 0x10000 0x10004))
     ∷ (0x002000ef ∷ 0x00100073 ∷ [], at 0x10000, Err (BadTarget 0x10000 0x10002))
-    ∷ (call_at_end, at 0x10008, Ok (in_call (frame 0x1000c X1 0x10004) 0x10004 ∷ []))
     ∷ (call_at_end, in_call (frame 0x1000c X1 0x10004) 0x10004, Err (BadTarget 0x10004 0x1000c))
     ∷ (calls_itself, in_call (frame 0x10004 X1 0x10008) 0x10008, Err (Recursion 0x10008))
     ∷ []

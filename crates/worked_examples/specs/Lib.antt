@@ -6,3 +6,4 @@ pub mod Caches
 pub mod Texts
 pub mod Orders
 pub mod Ways
+pub mod Reports

@@ -35,6 +35,10 @@ in_call opened address = configuration (opened ∷ []) address
 abbrev pub loop : List ℕ
 loop = 0x00000013 ∷ 0xfe051ee3 ∷ 0x00100073 ∷ []
 
+-- the same with a word behind that no path reaches
+abbrev pub loop_and_rest : List ℕ
+loop_and_rest = 0x00000013 ∷ 0xfe051ee3 ∷ 0x00100073 ∷ 0x00000013 ∷ []
+
 -- two calls of one function, a stop, and the function, which returns
 abbrev pub two_calls : List ℕ
 two_calls = 0x00c000ef ∷ 0x008000ef ∷ 0x00100073 ∷ 0x00008067 ∷ []

@@ -1,4 +1,4 @@
-ghost use Rattle.std.specs.Prelude.{◌≡◌, [], ◌∷◌, map, Ok, Err};
+ghost use Rattle.std.specs.Prelude.{◌≡◌, false, [], ◌∷◌, map, Ok, Err};
 ghost use Rattle.cache_spec.specs.Contents.{ends_in_hit};
 ghost use Rattle.cache_spec.specs.Lru.{touch, is_in};
 ghost use Rattle.elf_spec.specs.Image.{image_of};
@@ -8,14 +8,16 @@ ghost use Rattle.flow_spec.specs.Configuration.{start_of};
 ghost use Rattle.flow_spec.specs.Order.{configuration_cmp};
 ghost use Rattle.flow_spec.specs.Successors.{successors};
 ghost use Rattle.flow_spec.specs.Transfer.{is_good_target};
+ghost use Rattle.report_spec.specs.Report.{IsReport};
 ghost use Rattle.report_spec.specs.Text.{line_text};
 ghost use Rattle.transition_spec.specs.Named.{Names};
 ghost use Rattle.transition_spec.specs.Path.{IsPath};
-ghost use Rattle.worked_examples.specs.Caches.{worked_touches, worked_hits};
+ghost use Rattle.worked_examples.specs.Caches.{geometry, worked_touches, worked_hits};
 ghost use Rattle.worked_examples.specs.Files.{two_words, two_words_image, worked_places, worked_refusals};
 ghost use Rattle.worked_examples.specs.Flows.{worked_moves, worked_calls, worked_faults, worked_targets};
 ghost use Rattle.worked_examples.specs.Orders.{worked_order};
-ghost use Rattle.worked_examples.specs.Programs.{file_of, program_of, loop, branch_onto_pair};
+ghost use Rattle.worked_examples.specs.Programs.{file_of, program_of, loop, loop_and_rest, branch_onto_pair};
+ghost use Rattle.worked_examples.specs.Reports.{loop_report};
 ghost use Rattle.worked_examples.specs.Segments.{segments_of, worked_segments, worked_edges};
 ghost use Rattle.worked_examples.specs.Texts.{worked_lines};
 ghost use Rattle.worked_examples.specs.Ways.{once_around, once_around_way};
@@ -70,4 +72,9 @@ pub fn worked_order()
 pub fn worked_way()
     ensures path { IsPath (successors (program_of loop) 0x10000) (start_of 0x10000) once_around }
     ensures named { Names (successors (program_of loop) 0x10000) once_around_way once_around }
+{}
+
+/// The report by address of a loop, in a cache of one line of 16 bytes: its first word misses only on the shortest path.
+pub fn worked_report()
+    ensures { IsReport (program_of loop_and_rest) 0x10000 (geometry 16 1 1) false loop_report }
 {}

@@ -8,6 +8,6 @@
 mod laws;
 
 pub use laws::{
-    worked_caches, worked_faults, worked_file, worked_flows, worked_order, worked_segments,
-    worked_texts, worked_way,
+    worked_caches, worked_faults, worked_file, worked_flows, worked_order, worked_report,
+    worked_segments, worked_texts, worked_way,
 };

@@ -1,0 +1,94 @@
+-- How the paths of the loop end in a cache of one line of 16 bytes.
+use Rattle.std.proofs.Common.{◌≡◌, ℕ, ◌/◌, List, [], ◌∷◌, refl, sym, ap, ◌∙◌, subst, inl, inr, arith, lit<}
+use Rattle.std.specs.Prelude.{true, codes}
+use Rattle.elf_spec.specs.Word.{word_at}
+use Rattle.riscv_spec.specs.Pair.{pair_of}
+use Rattle.riscv_spec.specs.Table.{kind_of}
+use Rattle.cache_spec.specs.Contents.{ends_in_hit}
+use Rattle.flow_spec.specs.Configuration.{Configuration, start_of}
+use Rattle.flow_spec.specs.Successors.{successors}
+use Rattle.transition_spec.specs.Path.{IsPath}
+use Rattle.report_spec.specs.declared.line.Verdict.TheVariants.{AlwaysHit, Unknown}
+use Rattle.report_spec.specs.Right.{EndsIn, Fetches, IsRight, fetches_of}
+use Rattle.report_spec.specs.Report.{IsAt, IsUnreached}
+use Rattle.worked_examples.specs.Caches.{geometry}
+use Rattle.worked_examples.specs.Programs.{program_of, at, loop_and_rest}
+use Rattle.worked_examples.specs.Texts.{way}
+use Rattle.worked_examples.proofs.Moves.{step, IsAmong, among}
+
+-- the three words lie in one block
+block_is : (c : Configuration) → IsAmong c → c.at / 16 ≡ 4096
+block_is c (inl is) = ap (λ (c : Configuration). c.at / 16) is
+block_is c (inr (inl is)) = ap (λ (c : Configuration). c.at / 16) is
+block_is c (inr (inr is)) = ap (λ (c : Configuration). c.at / 16) is
+
+same_block : (p q : ℕ) (addresses : List ℕ) → p / 16 ≡ 4096 → q / 16 ≡ 4096 → ends_in_hit (geometry 16 1 1) (q ∷ p ∷ addresses) ≡ true
+same_block p q addresses before now = rw (before, now) refl
+
+-- each path but the shortest ends in a hit
+longer_hits : (c : Configuration) (earlier : List Configuration) → IsPath step (start_of 0x10000) (c ∷ earlier) → (c.at ≡ 0x10000 → ⊥)
+    → ends_in_hit (geometry 16 1 1) (fetches_of (c ∷ earlier)) ≡ true
+longer_hits c [] path other = absurd (other (ap (λ (c : Configuration). c.at) path))
+longer_hits c (b ∷ earlier) path other =
+    same_block b.at c.at (fetches_of earlier) (block_is b (among earlier b path.1)) (block_is c (among (b ∷ earlier) c path))
+
+pub each_hits : (address : ℕ) → (address ≡ 0x10000 → ⊥) → (addresses : List ℕ)
+    → Fetches (program_of loop_and_rest) 0x10000 (IsAt address) addresses → ends_in_hit (geometry 16 1 1) addresses ≡ true
+each_hits address other addresses (path, ends, is) =
+    let P : List Configuration → Type 0 = λ path. IsPath step (start_of 0x10000) path in
+    ap (λ addresses. ends_in_hit (geometry 16 1 1) addresses) (is ∙ ap fetches_of ends.path_is)
+    ∙ longer_hits ends.last ends.earlier (subst P ends.path_is ends.is_path) (λ there. other (sym ends.ends ∙ there))
+
+address_is : (c : Configuration) → IsAmong c → c.at ≡ 0x1000c → ⊥
+address_is c (inl is) there = let e = ap (λ (c : Configuration). c.at) is in omega arith
+address_is c (inr (inl is)) there = let e = ap (λ (c : Configuration). c.at) is in omega arith
+address_is c (inr (inr is)) there = let e = ap (λ (c : Configuration). c.at) is in omega arith
+
+-- no path reaches the word behind
+pub unreached : IsUnreached (program_of loop_and_rest) 0x10000 0x1000c
+unreached addresses (path, ends, is) =
+    let P : List Configuration → Type 0 = λ path. IsPath step (start_of 0x10000) path in
+    address_is ends.last (among ends.earlier ends.last (subst P ends.path_is ends.is_path)) ends.ends
+
+once_to : EndsIn (program_of loop_and_rest) 0x10000 (IsAt 0x10004) (at 0x10004 ∷ at 0x10000 ∷ [])
+unfolding successors word_at kind_of pair_of
+once_to = record { last = at 0x10004; earlier = at 0x10000 ∷ []; path_is = refl; is_path = ((0, lit< tt, refl), refl); ends = refl }
+
+through : EndsIn (program_of loop_and_rest) 0x10000 (IsAt 0x10008) (at 0x10008 ∷ at 0x10004 ∷ at 0x10000 ∷ [])
+unfolding successors word_at kind_of pair_of
+through = record {
+  last = at 0x10008;
+  earlier = at 0x10004 ∷ at 0x10000 ∷ [];
+  path_is = refl;
+  is_path = ((0, lit< tt, refl), ((0, lit< tt, refl), refl));
+  ends = refl;
+}
+
+pub second_right : IsRight (program_of loop_and_rest) 0x10000 (geometry 16 1 1) (IsAt 0x10004) AlwaysHit
+second_right = record { some = (_, (_, once_to, refl)); each = each_hits 0x10004 (λ h. omega (arith, h)) }
+
+pub third_right : IsRight (program_of loop_and_rest) 0x10000 (geometry 16 1 1) (IsAt 0x10008) AlwaysHit
+third_right = record { some = (_, (_, through, refl)); each = each_hits 0x10008 (λ h. omega (arith, h)) }
+
+pub first_right : IsRight (program_of loop_and_rest) 0x10000 (geometry 16 1 1) (IsAt 0x10000) (Unknown (way 3 (codes "t")) (way 1 []))
+unfolding successors word_at kind_of pair_of
+first_right = (
+  record {
+    path = at 0x10000 ∷ at 0x10004 ∷ at 0x10000 ∷ [];
+    ends_in = record {
+      last = at 0x10000;
+      earlier = at 0x10004 ∷ at 0x10000 ∷ [];
+      path_is = refl;
+      is_path = ((1, lit< tt, refl), ((0, lit< tt, refl), refl));
+      ends = refl;
+    };
+    names = record { steps = refl; choices = ([], codes "t", ([], [], refl, refl, refl), inr (refl, refl), refl) };
+    fate = refl;
+  },
+  record {
+    path = at 0x10000 ∷ [];
+    ends_in = record { last = at 0x10000; earlier = []; path_is = refl; is_path = refl; ends = refl };
+    names = record { steps = refl; choices = refl };
+    fate = refl;
+  },
+)
