@@ -1,5 +1,5 @@
 -- How the paths of the loop end in a cache of one line of 16 bytes.
-use Rattle.std.proofs.Common.{◌≡◌, ℕ, ◌/◌, List, [], ◌∷◌, refl, sym, ap, ◌∙◌, subst, inl, inr, arith, lit<}
+use Rattle.std.proofs.Common.{◌≡◌, ℕ, ◌/◌, List, [], ◌∷◌, refl, ap, ◌∙◌, subst, inl, inr, arith, lit<}
 use Rattle.std.specs.Prelude.{true, codes}
 use Rattle.elf_spec.specs.Word.{word_at}
 use Rattle.riscv_spec.specs.Pair.{pair_of}
@@ -10,7 +10,7 @@ use Rattle.flow_spec.specs.Successors.{successors}
 use Rattle.transition_spec.specs.Path.{IsPath}
 use Rattle.report_spec.specs.declared.line.Verdict.TheVariants.{AlwaysHit, Unknown}
 use Rattle.report_spec.specs.Right.{EndsIn, Fetches, IsRight, fetches_of}
-use Rattle.report_spec.specs.Report.{IsAt, IsUnreached}
+use Rattle.report_spec.specs.Report.{IsUnreached}
 use Rattle.worked_examples.specs.Caches.{geometry}
 use Rattle.worked_examples.specs.Programs.{program_of, at, loop_and_rest}
 use Rattle.worked_examples.specs.Texts.{way}
@@ -32,12 +32,16 @@ longer_hits c [] path other = absurd (other (ap (λ (c : Configuration). c.at) p
 longer_hits c (b ∷ earlier) path other =
     same_block b.at c.at (fetches_of earlier) (block_is b (among earlier b path.1)) (block_is c (among (b ∷ earlier) c path))
 
-pub each_hits : (address : ℕ) → (address ≡ 0x10000 → ⊥) → (addresses : List ℕ)
-    → Fetches (program_of loop_and_rest) 0x10000 (IsAt address) addresses → ends_in_hit (geometry 16 1 1) addresses ≡ true
-each_hits address other addresses (path, ends, is) =
+-- the configurations are somewhere else than at the entry
+abbrev pub AreElsewhere : (Configuration → Type 0) → Type 0
+AreElsewhere Ends = (d : Configuration) → Ends d → d.at ≡ 0x10000 → ⊥
+
+each_hits : (Ends : Configuration → Type 0) → AreElsewhere Ends → (addresses : List ℕ)
+    → Fetches (program_of loop_and_rest) 0x10000 Ends addresses → ends_in_hit (geometry 16 1 1) addresses ≡ true
+each_hits Ends elsewhere addresses (path, ends, is) =
     let P : List Configuration → Type 0 = λ path. IsPath step (start_of 0x10000) path in
     ap (λ addresses. ends_in_hit (geometry 16 1 1) addresses) (is ∙ ap fetches_of ends.path_is)
-    ∙ longer_hits ends.last ends.earlier (subst P ends.path_is ends.is_path) (λ there. other (sym ends.ends ∙ there))
+    ∙ longer_hits ends.last ends.earlier (subst P ends.path_is ends.is_path) (elsewhere ends.last ends.ends)
 
 address_is : (c : Configuration) → IsAmong c → c.at ≡ 0x1000c → ⊥
 address_is c (inl is) there = let e = ap (λ (c : Configuration). c.at) is in omega arith
@@ -50,45 +54,53 @@ unreached addresses (path, ends, is) =
     let P : List Configuration → Type 0 = λ path. IsPath step (start_of 0x10000) path in
     address_is ends.last (among ends.earlier ends.last (subst P ends.path_is ends.is_path)) ends.ends
 
-once_to : EndsIn (program_of loop_and_rest) 0x10000 (IsAt 0x10004) (at 0x10004 ∷ at 0x10000 ∷ [])
-unfolding successors word_at kind_of pair_of
-once_to = record { last = at 0x10004; earlier = at 0x10000 ∷ []; path_is = refl; is_path = ((0, lit< tt, refl), refl); ends = refl }
+module _ (Ends : Configuration → Type 0) where
+  once_to : Ends (at 0x10004) → EndsIn (program_of loop_and_rest) 0x10000 Ends (at 0x10004 ∷ at 0x10000 ∷ [])
+  unfolding successors word_at kind_of pair_of
+  once_to ends = record {
+    last = at 0x10004;
+    earlier = at 0x10000 ∷ [];
+    path_is = refl;
+    is_path = ((0, lit< tt, refl), refl);
+    ends = ends;
+  }
 
-through : EndsIn (program_of loop_and_rest) 0x10000 (IsAt 0x10008) (at 0x10008 ∷ at 0x10004 ∷ at 0x10000 ∷ [])
-unfolding successors word_at kind_of pair_of
-through = record {
-  last = at 0x10008;
-  earlier = at 0x10004 ∷ at 0x10000 ∷ [];
-  path_is = refl;
-  is_path = ((0, lit< tt, refl), ((0, lit< tt, refl), refl));
-  ends = refl;
-}
+  through : Ends (at 0x10008) → EndsIn (program_of loop_and_rest) 0x10000 Ends (at 0x10008 ∷ at 0x10004 ∷ at 0x10000 ∷ [])
+  unfolding successors word_at kind_of pair_of
+  through ends = record {
+    last = at 0x10008;
+    earlier = at 0x10004 ∷ at 0x10000 ∷ [];
+    path_is = refl;
+    is_path = ((0, lit< tt, refl), ((0, lit< tt, refl), refl));
+    ends = ends;
+  }
 
-pub second_right : IsRight (program_of loop_and_rest) 0x10000 (geometry 16 1 1) (IsAt 0x10004) AlwaysHit
-second_right = record { some = (_, (_, once_to, refl)); each = each_hits 0x10004 (λ h. omega (arith, h)) }
+  pub second_right : Ends (at 0x10004) → AreElsewhere Ends → IsRight (program_of loop_and_rest) 0x10000 (geometry 16 1 1) Ends AlwaysHit
+  second_right ends elsewhere = record { some = (_, (_, once_to ends, refl)); each = each_hits Ends elsewhere }
 
-pub third_right : IsRight (program_of loop_and_rest) 0x10000 (geometry 16 1 1) (IsAt 0x10008) AlwaysHit
-third_right = record { some = (_, (_, through, refl)); each = each_hits 0x10008 (λ h. omega (arith, h)) }
+  pub third_right : Ends (at 0x10008) → AreElsewhere Ends → IsRight (program_of loop_and_rest) 0x10000 (geometry 16 1 1) Ends AlwaysHit
+  third_right ends elsewhere = record { some = (_, (_, through ends, refl)); each = each_hits Ends elsewhere }
 
-pub first_right : IsRight (program_of loop_and_rest) 0x10000 (geometry 16 1 1) (IsAt 0x10000) (Unknown (way 3 (codes "t")) (way 1 []))
-unfolding successors word_at kind_of pair_of
-first_right = (
-  record {
-    path = at 0x10000 ∷ at 0x10004 ∷ at 0x10000 ∷ [];
-    ends_in = record {
-      last = at 0x10000;
-      earlier = at 0x10004 ∷ at 0x10000 ∷ [];
-      path_is = refl;
-      is_path = ((1, lit< tt, refl), ((0, lit< tt, refl), refl));
-      ends = refl;
-    };
-    names = record { steps = refl; choices = ([], codes "t", ([], [], refl, refl, refl), inr (refl, refl), refl) };
-    fate = refl;
-  },
-  record {
-    path = at 0x10000 ∷ [];
-    ends_in = record { last = at 0x10000; earlier = []; path_is = refl; is_path = refl; ends = refl };
-    names = record { steps = refl; choices = refl };
-    fate = refl;
-  },
-)
+  pub first_right : Ends (at 0x10000)
+      → IsRight (program_of loop_and_rest) 0x10000 (geometry 16 1 1) Ends (Unknown (way 3 (codes "t")) (way 1 []))
+  unfolding successors word_at kind_of pair_of
+  first_right ends = (
+    record {
+      path = at 0x10000 ∷ at 0x10004 ∷ at 0x10000 ∷ [];
+      ends_in = record {
+        last = at 0x10000;
+        earlier = at 0x10004 ∷ at 0x10000 ∷ [];
+        path_is = refl;
+        is_path = ((1, lit< tt, refl), ((0, lit< tt, refl), refl));
+        ends = ends;
+      };
+      names = record { steps = refl; choices = ([], codes "t", ([], [], refl, refl, refl), inr (refl, refl), refl) };
+      fate = refl;
+    },
+    record {
+      path = at 0x10000 ∷ [];
+      ends_in = record { last = at 0x10000; earlier = []; path_is = refl; is_path = refl; ends = ends };
+      names = record { steps = refl; choices = refl };
+      fate = refl;
+    },
+  )

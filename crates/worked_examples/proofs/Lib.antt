@@ -1,3 +1,4 @@
 pub mod Moves
 pub mod Fates
 pub mod Listed
+pub mod Layers

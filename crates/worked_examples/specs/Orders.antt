@@ -6,6 +6,7 @@ use Rattle.riscv_spec.specs.declared.kind.Link.TheVariants.{X1, X5}
 use Rattle.flow_spec.specs.Configuration.{Configuration, configuration}
 use Rattle.worked_examples.specs.Programs.{frame, at, in_call}
 
+-- two configurations, and how the first stands to the second
 abbrev pub worked_order : List (Configuration × Configuration × Ordering)
 worked_order =
     (in_call (frame 0x10008 X5 0x10010) 0x10000, at 0x10004, Less)

@@ -1,10 +1,32 @@
--- The report by address of the loop with a word behind.
-use Rattle.std.specs.Prelude.{ℕ, List, [], ◌∷◌, ◌++◌, codes}
+-- The layers and the reports of the loop with a word behind, and programs that are refused.
+use Rattle.std.specs.Prelude.{ℕ, List, [], ◌∷◌, ◌++◌, None, codes}
+use Rattle.flow_spec.specs.declared.fault.FlowFault.{FlowFault}
+use Rattle.flow_spec.specs.Acceptance.{IsAccepted, IsRefused}
+use Rattle.flow_spec.specs.Configuration.{Configuration}
+use Rattle.flow_spec.specs.Successors.{successors}
 use Rattle.report_spec.specs.declared.line.Line.{Line}
-use Rattle.report_spec.specs.declared.line.Line.TheVariants.{At, Unreachable}
+use Rattle.report_spec.specs.declared.line.Line.TheVariants.{At, Context, Unreachable}
 use Rattle.report_spec.specs.declared.line.Verdict.TheVariants.{AlwaysHit, Unknown}
+use Rattle.worked_examples.specs.Programs.{program_of, at}
 use Rattle.worked_examples.specs.Texts.{way}
 
+-- the program is accepted with these layers
+abbrev pub IsAcceptedIn : List ℕ → List (List Configuration) → Type 0
+IsAcceptedIn words layers = IsAccepted (successors (program_of words) 0x10000) (program_of words) 0x10000 layers
+
+-- the program is refused when it begins at the entry
+abbrev pub IsRefusedFrom : ℕ → List ℕ → FlowFault → Type 0
+IsRefusedFrom entry words fault = IsRefused (successors (program_of words) entry) (program_of words) entry fault
+
+-- each word of the loop is a layer
+abbrev pub loop_layers : List (List Configuration)
+loop_layers = (at 0x10000 ∷ []) ∷ (at 0x10004 ∷ []) ∷ (at 0x10008 ∷ []) ∷ []
+
+-- a branch both of whose successors are illegal
+abbrev pub two_faults : List ℕ
+two_faults = 0x00000463 ∷ 0xffffffff ∷ 0xffffffff ∷ []
+
+-- by address
 abbrev pub loop_lines : List Line
 loop_lines =
     At 0x10000 (Unknown (way 3 (codes "t")) (way 1 []))
@@ -13,9 +35,25 @@ loop_lines =
     ∷ Unreachable 0x1000c 0x1000c
     ∷ []
 
+-- their text
 abbrev pub loop_report : List ℕ
 loop_report =
     codes "0x00010000 unknown hit 3 t miss 1 -\n"
     ++ (codes "0x00010004 always-hit\n"
     ++ (codes "0x00010008 always-hit\n"
     ++ codes "0x0001000c-0x0001000c unreachable\n"))
+
+-- by configuration
+abbrev pub loop_context_lines : List Line
+loop_context_lines =
+    Context 0 0x10000 0 None (Unknown (way 3 (codes "t")) (way 1 []))
+    ∷ Context 1 0x10004 0 None AlwaysHit
+    ∷ Context 2 0x10008 0 None AlwaysHit
+    ∷ []
+
+-- their text
+abbrev pub loop_context_report : List ℕ
+loop_context_report =
+    codes "#0 0x00010000 depth 0 back none unknown hit 3 t miss 1 -\n"
+    ++ (codes "#1 0x00010004 depth 0 back none always-hit\n"
+    ++ codes "#2 0x00010008 depth 0 back none always-hit\n")

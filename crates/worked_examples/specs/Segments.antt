@@ -18,6 +18,7 @@ file_of_two first second =
     ((take 44 file_header ++ (2 ∷ drop 45 file_header)) ++ (first ++ second))
     ++ flat_map (to_le_bytes w32) (0x00000013 ∷ 0x00100073 ∷ [])
 
+-- a segment's address, its bytes, and its place in the file
 abbrev pub segment : ℕ → ℕ → ℕ → Segment
 segment address size offset = record { at = address; size = size; offset = offset }
 

@@ -5,9 +5,11 @@ use Rattle.report_spec.specs.declared.line.Line.{Line}
 use Rattle.report_spec.specs.declared.line.Line.TheVariants.{At, Context, Unreachable}
 use Rattle.report_spec.specs.declared.line.Verdict.TheVariants.{AlwaysHit, AlwaysMiss, Unknown}
 
+-- a path of so many members, with these choices
 abbrev pub way : ℕ → List ℕ → Way
 way steps choices = record { steps = steps; choices = choices }
 
+-- lines, each with its text
 abbrev pub worked_lines : List (Line × List ℕ)
 worked_lines =
     (At 0x10000 AlwaysMiss, codes "0x00010000 always-miss\n")

@@ -8,5 +8,6 @@ use Rattle.worked_examples.specs.Programs.{at}
 abbrev pub once_around : List Configuration
 once_around = at 0x10000 ∷ at 0x10004 ∷ at 0x10000 ∷ []
 
+-- its name
 abbrev pub once_around_way : Way
 once_around_way = record { steps = 3; choices = codes "t" }

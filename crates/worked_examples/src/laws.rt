@@ -1,11 +1,13 @@
-ghost use Rattle.std.specs.Prelude.{◌≡◌, false, [], ◌∷◌, map, Ok, Err};
+ghost use Rattle.std.specs.Prelude.{◌≡◌, true, false, [], ◌∷◌, map, Ok, Err};
 ghost use Rattle.cache_spec.specs.Contents.{ends_in_hit};
 ghost use Rattle.cache_spec.specs.Lru.{touch, is_in};
 ghost use Rattle.elf_spec.specs.Image.{image_of};
 ghost use Rattle.elf_spec.specs.Word.{word_at};
 ghost use Rattle.elf_spec.specs.Wrapped.{IsWrapped, wrapped_image};
+ghost use Rattle.flow_spec.specs.declared.fault.FlowFault.TheVariants.{BadEntry, BadTarget, Illegal};
 ghost use Rattle.flow_spec.specs.Configuration.{start_of};
 ghost use Rattle.flow_spec.specs.Order.{configuration_cmp};
+ghost use Rattle.flow_spec.specs.Straight.{built_successors};
 ghost use Rattle.flow_spec.specs.Successors.{successors};
 ghost use Rattle.flow_spec.specs.Transfer.{is_good_target};
 ghost use Rattle.report_spec.specs.Report.{IsReport};
@@ -14,10 +16,10 @@ ghost use Rattle.transition_spec.specs.Named.{Names};
 ghost use Rattle.transition_spec.specs.Path.{IsPath};
 ghost use Rattle.worked_examples.specs.Caches.{geometry, worked_touches, worked_hits};
 ghost use Rattle.worked_examples.specs.Files.{two_words, two_words_image, worked_places, worked_refusals};
-ghost use Rattle.worked_examples.specs.Flows.{worked_moves, worked_calls, worked_faults, worked_targets};
+ghost use Rattle.worked_examples.specs.Flows.{worked_moves, worked_calls, worked_faults, worked_targets, worked_followed};
 ghost use Rattle.worked_examples.specs.Orders.{worked_order};
-ghost use Rattle.worked_examples.specs.Programs.{file_of, program_of, loop, loop_and_rest, branch_onto_pair};
-ghost use Rattle.worked_examples.specs.Reports.{loop_report};
+ghost use Rattle.worked_examples.specs.Programs.{program_of, loop, loop_and_rest, branch_onto_pair, at};
+ghost use Rattle.worked_examples.specs.Reports.{IsAcceptedIn, IsRefusedFrom, loop_layers, two_faults, loop_report, loop_context_report};
 ghost use Rattle.worked_examples.specs.Segments.{segments_of, worked_segments, worked_edges};
 ghost use Rattle.worked_examples.specs.Texts.{worked_lines};
 ghost use Rattle.worked_examples.specs.Ways.{once_around, once_around_way};
@@ -44,6 +46,7 @@ pub fn worked_flows()
     ensures moves { map (λ f. successors (program_of f.0) 0x10000 f.1) worked_moves ≡ map (λ f. f.2) worked_moves }
     ensures calls { map (λ f. successors (program_of f.0) 0x10000 f.1) worked_calls ≡ map (λ f. f.2) worked_calls }
     ensures targets { map (λ t. is_good_target (program_of branch_onto_pair) t.0) worked_targets ≡ map (λ t. t.1) worked_targets }
+    ensures followed { map (λ a. built_successors (program_of loop) 0x10000 (at a.0)) worked_followed ≡ map (λ a. a.1) worked_followed }
 {}
 
 /// Words that lead nowhere good have their faults.
@@ -74,7 +77,16 @@ pub fn worked_way()
     ensures named { Names (successors (program_of loop) 0x10000) once_around_way once_around }
 {}
 
-/// The report by address of a loop, in a cache of one line of 16 bytes: its first word misses only on the shortest path.
-pub fn worked_report()
-    ensures { IsReport (program_of loop_and_rest) 0x10000 (geometry 16 1 1) false loop_report }
+/// The loop is accepted, and programs are refused by their entry, or by their first faulty word in order of address.
+pub fn worked_acceptance()
+    ensures accepted { IsAcceptedIn loop_and_rest loop_layers }
+    ensures bad_entry { IsRefusedFrom 0x10008 branch_onto_pair (BadEntry 0x10008) }
+    ensures bad_target { IsRefusedFrom 0x10000 (0x00000013 ∷ []) (BadTarget 0x10000 0x10004) }
+    ensures first_fault { IsRefusedFrom 0x10000 two_faults (Illegal 0x10004 0xffffffff) }
+{}
+
+/// The two reports of a loop, in a cache of one line of 16 bytes: its first word misses only on the shortest path.
+pub fn worked_reports()
+    ensures by_address { IsReport (program_of loop_and_rest) 0x10000 (geometry 16 1 1) false loop_report }
+    ensures by_context { IsReport (program_of loop_and_rest) 0x10000 (geometry 16 1 1) true loop_context_report }
 {}

@@ -1,13 +1,14 @@
 //! Small worked programs, against which the definitions are reviewed.
 //!
 //! Each function is a law: it does nothing, and its contract says what the definitions of files, words, successors,
-//! caches, texts, orders and ways give at examples that were worked out by hand. The checker computes both sides, so
-//! that a slip in a definition shows here. It stands on the crates of definitions alone, and no layer stands on it.
+//! acceptance, caches, orders, ways and reports give at examples that were worked out by hand. Most of them the checker
+//! computes; those that speak of all paths of a program are proved. So a slip in a definition shows here. It stands on
+//! the crates of definitions alone, and no layer stands on it.
 #![tactic(auto)]
 
 mod laws;
 
 pub use laws::{
-    worked_caches, worked_faults, worked_file, worked_flows, worked_order, worked_report,
-    worked_segments, worked_texts, worked_way,
+    worked_acceptance, worked_caches, worked_faults, worked_file, worked_flows, worked_order,
+    worked_reports, worked_segments, worked_texts, worked_way,
 };

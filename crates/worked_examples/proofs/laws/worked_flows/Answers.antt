@@ -17,3 +17,7 @@ returns-clause-calls c = refl
 pub returns-clause-targets : goal.returns-clause-targets
 unfolding word_at pair_of
 returns-clause-targets c = refl
+
+pub returns-clause-followed : goal.returns-clause-followed
+unfolding successors word_at kind_of pair_of
+returns-clause-followed c = refl

@@ -1,0 +1,75 @@
+-- The texts compute; the lines are right by the paths of the loop.
+use Rattle.std.proofs.Common.{◌≡◌, zero, suc, refl, ap, arith, lit<}
+use Rattle.std.specs.Fmt.{digits}
+use Rattle.std.specs.List.Sorted.{IsStrictlyIncreasing}
+use Rattle.hex.specs.Hex.{encode_with}
+use Rattle.flow_spec.specs.Configuration.{Configuration}
+use Rattle.report_spec.specs.Report.{IsAt}
+use Rattle.report_spec.specs.Text.{address_text, text_of}
+use Rattle.worked_examples.specs.Programs.{at}
+use Rattle.worked_examples.specs.Reports.{loop_layers, loop_lines, loop_report, loop_context_lines, loop_context_report}
+use Rattle.worked_examples.proofs.Fates.{AreElsewhere, first_right, second_right, third_right, unreached}
+use Rattle.worked_examples.proofs.Layers.{loop_accepted}
+use Rattle.worked_examples.proofs.Listed.{places, all_text}
+use Rattle.worked_examples.proofs.laws.worked_reports.Goals as goal
+
+text_is : loop_report ≡ text_of loop_lines
+unfolding address_text encode_with digits
+text_is = refl
+
+context_text_is : loop_context_report ≡ text_of loop_context_lines
+unfolding address_text encode_with digits
+context_text_is = refl
+
+rising : IsStrictlyIncreasing places
+rising zero below = lit< tt
+rising (suc zero) below = lit< tt
+rising (suc (suc zero)) below = lit< tt
+rising (suc (suc (suc k))) below = absurd (omega arith)
+
+at_second : AreElsewhere (IsAt 0x10004)
+at_second d there same = omega (arith, there, same)
+
+at_third : AreElsewhere (IsAt 0x10008)
+at_third d there same = omega (arith, there, same)
+
+is_second : AreElsewhere (λ d. d ≡ at 0x10004)
+is_second d is same = let there = ap (λ (d : Configuration). d.at) is in omega (arith, there, same)
+
+is_third : AreElsewhere (λ d. d ≡ at 0x10008)
+is_third d is same = let there = ap (λ (d : Configuration). d.at) is in omega (arith, there, same)
+
+pub returns-clause-by_address : goal.returns-clause-by_address
+returns-clause-by_address c = (
+  loop_lines,
+  text_is,
+  record {
+    rising = rising;
+    all = all_text;
+    right = (
+      first_right (IsAt 0x10000) refl,
+      (
+        second_right (IsAt 0x10004) refl at_second,
+        (third_right (IsAt 0x10008) refl at_third, (((0, lit< tt, refl), (unreached, tt)), tt)),
+      ),
+    );
+    greatest = tt;
+  },
+)
+
+pub returns-clause-by_context : goal.returns-clause-by_context
+returns-clause-by_context c = (
+  loop_context_lines,
+  context_text_is,
+  (
+    loop_layers,
+    loop_accepted,
+    (
+      (refl, refl, refl, refl, first_right (λ d. d ≡ at 0x10000) refl),
+      (
+        (refl, refl, refl, refl, second_right (λ d. d ≡ at 0x10004) refl is_second),
+        ((refl, refl, refl, refl, third_right (λ d. d ≡ at 0x10008) refl is_third), tt),
+      ),
+    ),
+  ),
+)
