@@ -15,7 +15,7 @@ pub enum FlowFault {
     Recursion { at: u32 },
     /// More configurations than the limit.
     TooManyFetches { limit: u32 },
-    /// A word that isn't followed today.
+    /// A branch, a jump, a call, a return or a computed jump, none of which is followed today.
     NotBuilt { at: u32 },
     OutOfMemory,
 }

@@ -137,6 +137,31 @@ fn straight_programs_are_classified(rt: HostRuntime) -> Result<(), Fail> {
 }
 
 #[test]
+fn plain_words_lead_to_a_stop(rt: HostRuntime) -> Result<(), Fail> {
+    let words = [0x02a58533, 0x00000073, 0x30200073];
+    let text = "0x00010000 always-miss\n0x00010004 always-hit\n0x00010008 always-hit\n";
+    check(&rt, rt.alloc(), SMALL, &words, Status::Done, text)?;
+    Ok(())
+}
+
+#[test]
+fn each_word_that_is_not_followed_has_its_fault(rt: HostRuntime) -> Result<(), Fail> {
+    let alloc = rt.alloc();
+    let word = 0xffffffff;
+    let illegal = Status::Flow(FlowFault::Illegal { at: 0x10000, word });
+    let text = "icache: illegal word 0xffffffff at 0x00010000\n";
+    check(&rt, alloc, SMALL, &[word], illegal, text)?;
+    let lone = Status::Flow(FlowFault::NotBuilt { at: 0x10000 });
+    let text = "icache: not built yet at 0x00010000\n";
+    check(&rt, alloc, SMALL, &[0x00008067], lone, text)?;
+    let paired = Status::Flow(FlowFault::NotBuilt { at: 0x10004 });
+    let text = "icache: not built yet at 0x00010004\n";
+    let pair = [0x00000097, 0x00c080e7, 0x00100073, 0x00008067];
+    check(&rt, alloc, SMALL, &pair, paired, text)?;
+    Ok(())
+}
+
+#[test]
 fn each_refusal_has_its_text(rt: HostRuntime) -> Result<(), Fail> {
     let alloc = rt.alloc();
     let jump = Status::Flow(FlowFault::NotBuilt { at: 0x10000 });

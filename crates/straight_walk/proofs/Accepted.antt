@@ -1,15 +1,15 @@
 -- A straight program that ends with a stop is accepted.
-use Rattle.std.proofs.Common.{◌≡◌, ℕ, suc, ◌+◌, ◌*◌, ◌<◌, ◌≤◌, List, [], ◌∷◌, sym, refl, subst, arith, inl, inr}
-use Rattle.std.specs.Prelude.{Some, Ok, IsOk}
+use Rattle.std.proofs.Common.{◌≡◌, ℕ, suc, ◌+◌, ◌*◌, ◌<◌, ◌≤◌, List, [], ◌∷◌, sym, refl, subst, ◌∙◌, arith, inl, inr}
+use Rattle.std.specs.Prelude.{Ok, IsOk}
 use Rattle.std.proofs.Math.Nat.{eq-or-lt_of_le}
 use Rattle.elf_spec.specs.Image.{Image}
-use Rattle.elf_spec.specs.Word.{word_at}
+use Rattle.riscv_spec.specs.declared.kind.Kind.TheVariants.{Stop}
 use Rattle.flow_spec.specs.Configuration.{Configuration}
 use Rattle.flow_spec.specs.Successors.{Successors}
 use Rattle.flow_spec.specs.Straight.{built_successors}
 use Rattle.flow_spec.specs.Acceptance.{IsAccepted, IsFaultless, Step}
-use Rattle.straight_walk.specs.Straight.{IsOneBlock, ArePlain}
-use Rattle.straight_walk.proofs.Steps.{stop_step}
+use Rattle.straight_walk.specs.Straight.{IsOneBlock, HasKind, ArePlain}
+use Rattle.straight_walk.proofs.Steps.{built_step, stop_step}
 use Rattle.straight_walk.proofs.Paths.{at_word, Leads, has_text}
 use Rattle.straight_walk.proofs.Blocks.{good_entry, below_count, row_is, built_leads}
 use Rattle.straight_walk.proofs.Layers.{singles, length-singles, all_faultless, no_layer, layers_are, is_faultless}
@@ -28,14 +28,14 @@ each_faultless step entry last leads ends i below =
     ]
 
 pub accepted : (image : Image) (count last : ℕ) → IsOneBlock image count → ArePlain image last
-    → word_at image (image.entry + 4 * last) ≡ Some 0x00100073
+    → HasKind image (image.entry + 4 * last) Stop
     → (layers : List (List Configuration)) × IsAccepted (built_successors image image.entry) image image.entry layers
 accepted image count last block plain stop =
     let step = built_successors image image.entry in
     let entry = image.entry in
     let text = has_text image _ _ stop in
     let leads = built_leads image last (row_is image count last block plain text) in
-    let ends : step (at_word entry last) ≡ Ok [] = rw stop (stop_step image entry _ stop) in
+    let ends : step (at_word entry last) ≡ Ok [] = built_step image entry _ Stop stop refl ∙ stop_step image entry _ stop in
     let layers = singles entry 0 (suc last) in (
       layers,
       record {

@@ -1,11 +1,13 @@
 -- Programs of one block: the entry is good, and plain words lead to the next.
-use Rattle.std.proofs.Common.{◌≡◌, ℕ, ◌+◌, ◌*◌, ◌<◌, true, false, refl, subst, arith}
+use Rattle.std.proofs.Common.{◌≡◌, ℕ, ◌+◌, ◌*◌, ◌<◌, true, false, refl, subst, ◌∙◌, arith}
 use Rattle.elf_spec.specs.Image.{Image}
 use Rattle.elf_spec.specs.Word.{word_at, is_text}
 use Rattle.flow_spec.specs.Transfer.{is_second_half, is_good_target}
+use Rattle.riscv_spec.specs.declared.kind.Kind.TheVariants.{Plain}
 use Rattle.flow_spec.specs.Configuration.{Configuration}
 use Rattle.flow_spec.specs.Straight.{built_successors}
 use Rattle.straight_walk.specs.Straight.{IsOneBlock, ArePlain}
+use Rattle.straight_walk.proofs.Steps.{built_step}
 use Rattle.straight_walk.proofs.Paths.{Leads, IsRow, row_leads, start_is}
 use Rattle.straight_walk.proofs.BlockText.{text_place, place_text}
 
@@ -36,4 +38,4 @@ row_is image count n block plain text = record {
 
 -- they are built, so each leads to the next
 pub built_leads : (image : Image) (n : ℕ) → IsRow image n → Leads (built_successors image image.entry) image.entry n
-built_leads image n row i below = rw (row.plain i below) (row_leads image n row i below)
+built_leads image n row i below = built_step image image.entry _ Plain (row.plain i below) refl ∙ row_leads image n row i below

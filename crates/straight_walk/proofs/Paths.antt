@@ -1,15 +1,17 @@
 -- The paths of a straight program: there is one of each length, and it goes from word to word.
-use Rattle.std.proofs.Common.{◌≡◌, ℕ, zero, suc, ◌+◌, ◌*◌, ◌^◌, ◌<◌, ◌≤◌, List, [], ◌∷◌, length, refl, sym, ap, ◌∙◌, subst, arith, Some, inl, inr, lit<}
+use Rattle.std.proofs.Common.{◌≡◌, ℕ, zero, suc, ◌+◌, ◌*◌, ◌^◌, ◌<◌, ◌≤◌, List, [], ◌∷◌, length, refl, sym, ap, ◌∙◌, subst, arith, inl, inr, lit<}
 use Rattle.std.specs.Prelude.{true, Ok, Contains, IsOkAnd}
 use Rattle.std.proofs.Math.Nat.{eq-or-lt_of_le}
 use Rattle.elf_spec.specs.Image.{Image}
-use Rattle.elf_spec.specs.Word.{word_at, is_text}
+use Rattle.elf_spec.specs.Word.{is_text}
+use Rattle.riscv_spec.specs.declared.kind.Kind.{Kind}
+use Rattle.riscv_spec.specs.declared.kind.Kind.TheVariants.{Stop}
 use Rattle.transition_spec.specs.Path.{IsPath, IsSuccessor}
 use Rattle.flow_spec.specs.Acceptance.{Step}
 use Rattle.flow_spec.specs.Configuration.{Configuration, configuration, start_of}
 use Rattle.flow_spec.specs.Successors.{Successors, successors}
 use Rattle.report_spec.specs.Right.{fetches_of}
-use Rattle.straight_walk.specs.Straight.{ArePlain, fetched}
+use Rattle.straight_walk.specs.Straight.{HasKind, ArePlain, fetched}
 use Rattle.straight_walk.proofs.Steps.{plain_step, stop_step}
 
 -- control is at word i, and no call is open
@@ -87,8 +89,8 @@ pub record IsRow (image : Image) (n : ℕ) : Type 0 where
   pub text : is_text image (image.entry + 4 * n) ≡ true
   pub room : image.entry + 4 * n < 2 ^ 32
 
-pub has_text : (image : Image) (p w : ℕ) → word_at image p ≡ Some w → is_text image p ≡ true
-has_text image p w at = rw at refl
+pub has_text : (image : Image) (p : ℕ) (kind : Kind) → HasKind image p kind → is_text image p ≡ true
+has_text image p kind (w, at, is) = rw at refl
 
 -- every word of the row is in the text
 pub row_text : (image : Image) (n i : ℕ) → IsRow image n → i ≤ n → is_text image (image.entry + 4 * i) ≡ true
@@ -109,7 +111,7 @@ row_leads image n row i below =
 -- `last` words are plain, and the next is a stop
 pub record IsRun (image : Image) (last : ℕ) : Type 0 where
   pub plain : ArePlain image last
-  pub stop : word_at image (image.entry + 4 * last) ≡ Some 0x00100073
+  pub stop : HasKind image (image.entry + 4 * last) Stop
   pub room : image.entry + 4 * last < 2 ^ 32
 
 pub run_leads : (image : Image) (last : ℕ) → IsRun image last → Leads (successors image image.entry) image.entry last

@@ -1,18 +1,18 @@
 -- Why a straight program that isn't accepted is refused.
 use Rattle.std.proofs.Common.{◌≡◌, ℕ, suc, ◌+◌, ◌*◌, ◌^◌, ◌<◌, [], ◌∷◌, List, refl, sym, ◌∙◌, subst, arith, inl, inr, append-nil, length-append}
-use Rattle.std.specs.Prelude.{◌≢◌, true, Some, None, Err}
+use Rattle.std.specs.Prelude.{true, Some, None, Err}
 use Rattle.std.specs.List.{AllByRecursion}
-use Rattle.std.proofs.lemmas.Bool.{ne_eqb}
 use Rattle.elf_spec.specs.Image.{Image}
 use Rattle.elf_spec.specs.Word.{word_at, is_text}
+use Rattle.riscv_spec.specs.Table.{kind_of}
 use Rattle.transition_spec.specs.Layer.{all_of}
 use Rattle.flow_spec.specs.Configuration.{Configuration}
 use Rattle.flow_spec.specs.Straight.{built_successors}
 use Rattle.flow_spec.specs.Acceptance.{IsRefused, IsFaultless}
 use Rattle.flow_spec.specs.declared.fault.FlowFault.{FlowFault}
-use Rattle.flow_spec.specs.declared.fault.FlowFault.TheVariants.{BadTarget, NotBuilt}
-use Rattle.straight_walk.specs.Straight.{IsOneBlock, ArePlain}
-use Rattle.straight_walk.proofs.Steps.{plain_step}
+use Rattle.flow_spec.specs.declared.fault.FlowFault.TheVariants.{BadTarget}
+use Rattle.straight_walk.specs.Straight.{IsOneBlock, ArePlain, ends_by}
+use Rattle.straight_walk.proofs.Steps.{plain_step, built_step, fault_step}
 use Rattle.straight_walk.proofs.Paths.{at_word, has_text}
 use Rattle.straight_walk.proofs.Blocks.{good_entry, below_count, row_is, built_leads}
 use Rattle.straight_walk.proofs.Layers.{singles, length-singles, all_faultless, layer_is, layers_are, is_faultless}
@@ -51,13 +51,13 @@ refused image count n fault block plain text faulty =
       faulty,
     ))
 
--- n plain words, and then a word that isn't followed
-pub not_built : (image : Image) (count n w : ℕ) → IsOneBlock image count → ArePlain image n
-    → word_at image (image.entry + 4 * n) ≡ Some w → w ≢ 0x00000013 → w ≢ 0x00100073
-    → IsRefused (built_successors image image.entry) image image.entry (NotBuilt (image.entry + 4 * n))
-not_built image count n w block plain at not_plain not_stop =
-    refused image count n _ block plain (has_text image _ w at)
-    (rw (at, ne_eqb w 0x00000013 not_plain, ne_eqb w 0x00100073 not_stop) refl)
+-- n plain words, and then a word at which the walk has a fault
+pub faulty_word : (image : Image) (count n w : ℕ) (fault : FlowFault) → IsOneBlock image count → ArePlain image n
+    → word_at image (image.entry + 4 * n) ≡ Some w → ends_by (image.entry + 4 * n) w (kind_of w) ≡ Err fault
+    → IsRefused (built_successors image image.entry) image image.entry fault
+faulty_word image count n w fault block plain at faulty =
+    refused image count n fault block plain (has_text image _ (kind_of w) (w, at, refl))
+    (fault_step image image.entry _ w (kind_of w) fault at refl faulty)
 
 -- plain words up to the end of the text
 pub bad_target : (image : Image) (count n : ℕ) → IsOneBlock image count → ArePlain image (suc n)
@@ -69,4 +69,5 @@ bad_target image count n block plain past =
     let next : ℕ = image.entry + 4 * suc n in
     let room : next < 2 ^ 32 = omega (arith, block.entry, block.few, below_count image count n block text) in
     let at_end = plain_step image image.entry (image.entry + 4 * n) next at (omega arith) room in
-    refused image count n _ block (λ i below. plain i (omega arith)) text (rw at (at_end ∙ rw past refl))
+    refused image count n _ block (λ i below. plain i (omega arith)) text
+    (built_step image image.entry _ _ at refl ∙ at_end ∙ rw past refl)

@@ -1,23 +1,24 @@
 -- The lines of a straight program are a report.
-use Rattle.std.proofs.Common.{◌≡◌, ℕ, suc, ◌+◌, ◌*◌, ◌≤◌, List, length, sym, ap, subst, arith, Some}
-use Rattle.std.specs.Prelude.{◌↔◌, Option, Contains, is_some}
+use Rattle.std.proofs.Common.{ℕ, suc, ◌+◌, ◌*◌, ◌≤◌, List, length, sym, subst, arith}
+use Rattle.std.specs.Prelude.{◌↔◌, Contains}
 use Rattle.std.specs.List.Sorted.{IsStrictlyIncreasing}
 use Rattle.elf_spec.specs.Image.{Image}
-use Rattle.elf_spec.specs.Word.{word_at, IsText}
+use Rattle.elf_spec.specs.Word.{IsText}
+use Rattle.riscv_spec.specs.declared.kind.Kind.TheVariants.{Stop}
 use Rattle.cache_spec.specs.Geometry.{Geometry}
-use Rattle.straight_walk.specs.Straight.{IsOneBlock, ArePlain, hits_of, IsReportedBy}
-use Rattle.straight_walk.proofs.Paths.{IsRun}
+use Rattle.straight_walk.specs.Straight.{IsOneBlock, HasKind, ArePlain, hits_of, IsReportedBy}
+use Rattle.straight_walk.proofs.Paths.{IsRun, has_text}
 use Rattle.straight_walk.proofs.BlockText.{text_place, all_text}
 use Rattle.straight_walk.proofs.Accepted.{accepted}
 use Rattle.straight_walk.proofs.Lines.{words_from-rising, lines_addresses, lines_greatest, lines_right, length-hits_of}
 
 -- the lines for the hits of a run are a report
 pub reported : (image : Image) (g : Geometry) (count last : ℕ) → IsOneBlock image count → ArePlain image last
-    → word_at image (image.entry + 4 * last) ≡ Some 0x00100073 → IsReportedBy image g count (hits_of g image.entry (suc last))
+    → HasKind image (image.entry + 4 * last) Stop → IsReportedBy image g count (hits_of g image.entry (suc last))
 reported image g count last one plain stop =
     let hits = hits_of g image.entry (suc last) in
     let P : ℕ → Type 0 = λ p. IsText image p in
-    let stop_text : IsText image (image.entry + 4 * last) = ap (λ (o : Option ℕ). is_some o) stop in
+    let stop_text : IsText image (image.entry + 4 * last) = has_text image _ _ stop in
     let at = text_place image count (image.entry + 4 * last) one stop_text in
     let few : length hits ≤ count = omega (arith, length-hits_of g image.entry (suc last), at.1, at.2) in
     let run : IsRun image last = record { plain = plain; stop = stop; room = omega (arith, one.entry, one.few, at.1, at.2) } in

@@ -1,12 +1,17 @@
 -- Straight programs: plain words in a row, and a stop.
-use Rattle.std.specs.Prelude.{◌≡◌, ℕ, zero, suc, ◌+◌, ◌-◌, ◌*◌, ◌<◌, ◌≤◌, Bool, true, false, List, [], ◌∷◌, ◌++◌, length, Some, nat_lt, if◌then◌else◌}
+use Rattle.std.specs.Prelude.{◌≡◌, ℕ, zero, suc, ◌+◌, ◌-◌, ◌*◌, ◌<◌, ◌≤◌, Bool, true, false, List, [], ◌∷◌, ◌++◌, length, Some, Result, Ok, Err, nat_lt, if◌then◌else◌}
 use Rattle.elf_spec.specs.Image.{Image}
 use Rattle.elf_spec.specs.Word.{word_at}
+use Rattle.riscv_spec.specs.declared.kind.Kind.{Kind}
+use Rattle.riscv_spec.specs.declared.kind.Kind.TheVariants as kinds
+use Rattle.riscv_spec.specs.Table.{kind_of}
 use Rattle.cache_spec.specs.Geometry.{Geometry}
 use Rattle.cache_spec.specs.Contents.{ends_in_hit}
 use Rattle.flow_spec.specs.Configuration.{Configuration}
 use Rattle.flow_spec.specs.Straight.{built_successors}
 use Rattle.flow_spec.specs.Acceptance.{IsAccepted}
+use Rattle.flow_spec.specs.declared.fault.FlowFault.{FlowFault}
+use Rattle.flow_spec.specs.declared.fault.FlowFault.TheVariants.{NotBuilt, Illegal}
 use Rattle.report_spec.specs.Report.{AreByAddress}
 use Rattle.report_spec.specs.declared.line.Line.{Line}
 use Rattle.report_spec.specs.declared.line.Line.TheVariants.{At, Unreachable}
@@ -20,9 +25,24 @@ pub record IsOneBlock (image : Image) (count : ℕ) : Type 0 where
   pub some : 1 ≤ count
   pub few : count ≤ 65536
 
+-- the word at an address is of a kind
+abbrev pub HasKind : Image → ℕ → Kind → Type 0
+HasKind image p kind = (w : ℕ) × (word_at image p ≡ Some w) × (kind_of w ≡ kind)
+
 -- the first n words are plain
 abbrev pub ArePlain : Image → ℕ → Type 0
-ArePlain image n = (i : ℕ) → i < n → word_at image (image.entry + 4 * i) ≡ Some 0x00000013
+ArePlain image n = (i : ℕ) → i < n → HasKind image (image.entry + 4 * i) kinds.Plain
+
+-- whether a walk ends at a word of a kind, or the fault that the word is
+abbrev pub ends_by : ℕ → ℕ → Kind → Result Bool FlowFault
+ends_by at word kinds.Plain = Ok false
+ends_by at word (kinds.Branch offset) = Err (NotBuilt at)
+ends_by at word (kinds.Jump offset) = Err (NotBuilt at)
+ends_by at word (kinds.Call offset link) = Err (NotBuilt at)
+ends_by at word (kinds.Return link) = Err (NotBuilt at)
+ends_by at word kinds.Computed = Err (NotBuilt at)
+ends_by at word kinds.Stop = Ok true
+ends_by at word kinds.Illegal = Err (Illegal at word)
 
 -- the addresses of the first n fetches, the last of them first
 abbrev pub fetched : ℕ → ℕ → List ℕ
@@ -38,7 +58,7 @@ hits_of g entry (suc n) = hits_of g entry n ++ ends_in_hit g (fetched entry (suc
 pub record IsStraight (image : Image) (g : Geometry) (hits : List Bool) : Type 0 where
   pub last : ℕ
   pub plain : ArePlain image last
-  pub stop : word_at image (image.entry + 4 * last) ≡ Some 0x00100073
+  pub stop : HasKind image (image.entry + 4 * last) kinds.Stop
   pub hits_are : hits ≡ hits_of g image.entry (suc last)
 
 abbrev pub verdict_of : Bool → Verdict

@@ -1,19 +1,15 @@
 ghost use Rattle.std.specs.Prelude.{◌≡◌, ◌⊎◌, ◌++◌, ◌∷◌, [], ℕ, IfOk, IfErr, OnOk};
+ghost use Rattle.riscv_spec.specs.Table.{kind_of};
 ghost use Rattle.flow_spec.specs.Straight.{built_successors};
 ghost use Rattle.flow_spec.specs.Acceptance.{IsRefused};
 ghost use Rattle.straight_walk.specs.Cached.{IsEmpty};
-ghost use Rattle.straight_walk.specs.Straight.{IsOneBlock, IsReportedBy};
+ghost use Rattle.straight_walk.specs.Straight.{IsOneBlock, IsReportedBy, ends_by};
 
 use crate::cache::Cache;
 use elf_image::Image;
 use flow_spec::FlowFault;
+use rv_decode::{Kind, decode};
 use std::alloc::{AllocError, Global};
-
-/// The instruction `nop`.
-const PLAIN: u32 = 0x00000013;
-
-/// The instruction `ebreak`.
-const STOP: u32 = 0x00100073;
 
 /// Walks a program of plain words from its entry to its stop, with a cache beside it that is empty at first, and tells
 /// of each fetch whether it hits. The image has one block of words, at whose front it begins.
@@ -28,11 +24,9 @@ pub fn walk(alloc: Global, image: &Image, cache: &mut Cache) -> Result<Vec<bool>
     let mut hits = Vec::new(alloc);
     let mut at = image.entry();
     while let Some(word) = image.word(at) {
-        if word != PLAIN && word != STOP {
-            return Err(FlowFault::NotBuilt { at });
-        }
+        let ends = ends_at(at, word)?;
         push(&mut hits, cache.fetch(at))?;
-        if word == STOP {
+        if ends {
             return Ok(hits);
         }
         at += 4;
@@ -41,6 +35,18 @@ pub fn walk(alloc: Global, image: &Image, cache: &mut Cache) -> Result<Vec<bool>
         at: at - 4,
         target: at,
     })
+}
+
+/// Whether the walk ends at a word, or the fault that the word is.
+fn ends_at(at: u32, word: u32) -> Result<bool, FlowFault>
+    ensures { result ≡ ends_by at word (kind_of word) }
+{
+    match decode(word) {
+        Kind::Plain => Ok(false),
+        Kind::Stop => Ok(true),
+        Kind::Illegal => Err(FlowFault::Illegal { at, word }),
+        _ => Err(FlowFault::NotBuilt { at }),
+    }
 }
 
 fn push(hits: &mut Vec<bool>, hit: bool) -> Result<(), AllocError>

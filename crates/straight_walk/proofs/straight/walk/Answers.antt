@@ -1,19 +1,26 @@
 use Rattle.std.proofs.Common.{◌≡◌, ℕ, zero, suc, ◌+◌, ◌-◌, ◌*◌, ◌<◌, List, ◌++◌, ◌∷◌, [], length, Some, None, sym, ap, subst, ◌∙◌, arith, inr, add-one, length-append, below_more}
-use Rattle.std.specs.Prelude.{is_some, Bool, true, Option}
-use Rattle.std.proofs.lemmas.Grind.{common_steps}
+use Rattle.std.specs.Prelude.{is_some, Bool, true, false, Option, ◌⊎◌, Result, Ok, Err, IfErr, IsErrAnd}
 use Rattle.elf_spec.specs.Image.{Image}
 use Rattle.elf_spec.specs.Word.{word_at, IsText}
+use Rattle.riscv_spec.specs.declared.kind.Kind.TheVariants.{Plain, Stop}
+use Rattle.riscv_spec.specs.Table.{kind_of}
 use Rattle.cache_spec.specs.Geometry.{Geometry}
 use Rattle.cache_spec.specs.Contents.{ends_in_hit}
-use Rattle.straight_walk.specs.Straight.{IsOneBlock, ArePlain, fetched, hits_of, IsReportedBy}
+use Rattle.straight_walk.specs.Straight.{IsOneBlock, HasKind, ArePlain, ends_by, fetched, hits_of, IsReportedBy}
 use Rattle.straight_walk.specs.Cached.{Keeps}
+use Rattle.straight_walk.proofs.Steps.{stop_is, plain_is}
 use Rattle.straight_walk.proofs.Reported.{reported}
 use Rattle.straight_walk.proofs.BlockText.{text_place, place_text}
-use Rattle.straight_walk.proofs.Refused.{not_built, bad_target}
+use Rattle.straight_walk.proofs.Refused.{faulty_word, bad_target}
 use Rattle.flow_spec.specs.Straight.{built_successors}
 use Rattle.flow_spec.specs.Acceptance.{IsRefused}
-use Rattle.flow_spec.specs.declared.fault.FlowFault.TheVariants.{BadTarget, NotBuilt}
+use Rattle.flow_spec.specs.declared.fault.FlowFault.{FlowFault}
+use Rattle.flow_spec.specs.declared.fault.FlowFault.TheVariants.{BadTarget, OutOfMemory}
 use Rattle.straight_walk.proofs.straight.walk.Goals as goal
+
+passed_up : {T E : Type 0} (r : Result T E) (e : E) (P : E → Type 0) → IsErrAnd r (λ y. y ≡ e) → P e → IfErr r P
+passed_up (Ok x) e P is p = tt
+passed_up (Err y) e P is p = subst P (sym is) p
 
 length-push : {A : Type 0} (old new : List A) (x : A) → new ≡ old ++ x ∷ [] → length new ≡ suc (length old)
 length-push old new x is = ap (λ xs. length xs) is ∙ omega (arith, length-append old (x ∷ []))
@@ -30,10 +37,10 @@ hits_more g entry n p old new hit was at is more =
     let there : hit ≡ ends_in_hit g (fetched entry (suc n)) = is ∙ ap (λ p. ends_in_hit g (p ∷ fetched entry n)) at in
     more ∙ ap (λ hits. hits ++ hit ∷ []) was ∙ ap (λ hit. hits_of g entry n ++ hit ∷ []) there
 
-plain_more : (image : Image) (n p : ℕ) → ArePlain image n → p ≡ image.entry + 4 * n → word_at image p ≡ Some 0x00000013 → ArePlain image (suc n)
+plain_more : (image : Image) (n p : ℕ) → ArePlain image n → p ≡ image.entry + 4 * n → HasKind image p Plain → ArePlain image (suc n)
 plain_more image n p plain at word =
     let P : ℕ → Type 0 = λ m. ArePlain image m in
-    let Q : ℕ → Type 0 = λ q. word_at image q ≡ Some 0x00000013 in
+    let Q : ℕ → Type 0 = λ q. HasKind image q Plain in
     subst P (add-one n) (below_more _ _ plain (subst Q at word))
 
 -- the walk has left the text
@@ -53,14 +60,16 @@ bad_end image count (suc n) at one plain is none =
     let Target : ℕ → Type 0 = λ target. Refused (image.entry + 4 * n) target in
     subst At (sym previous) (subst Target (sym is) (bad_target image count n one plain (subst Q is none)))
 
-pub returns-then-word-eq-STOP-clause-report : goal.returns-then-word-eq-STOP-clause-report
-returns-then-word-eq-STOP-clause-report c count one =
+pub returns-then-ends-clause-report : goal.returns-then-ends-clause-report
+returns-then-ends-clause-report c count one =
     let image = c.args.image.now in
     let g = c.args.cache.now.geometry in
     let n = length c.loop-word.hits.items in
     let loop = c.loop-word.invariant in
-    let stop : word_at image c.loop-word.at ≡ Some 0x00100073 = grind (arith, common_steps) in
-    let Q : ℕ → Type 0 = λ p. word_at image p ≡ Some 0x00100073 in
+    let ended : ends_by c.loop-word.at c.in-Some.word (kind_of c.in-Some.word) ≡ Ok true =
+    cc (c.ends_at.ensures, c.in_ok-ends.was, c.if-ends.true) in
+    let stop : HasKind image c.loop-word.at Stop = (c.in-Some.word, sym c.in-Some.ensures, stop_is _ _ _ ended) in
+    let Q : ℕ → Type 0 = λ p. HasKind image p Stop in
     let hits : c.push.new.hits.items ≡ hits_of g image.entry (suc n) =
     hits_more g image.entry n c.loop-word.at c.loop-word.hits.items c.push.new.hits.items c.fetch.result loop.hits loop.at
     (c.fetch.ensures.hit (fetched image.entry n) loop.kept ∙ ap (λ g. ends_in_hit g (c.loop-word.at ∷ fetched image.entry n)) loop.geometry) c.in_ok-push.ensures in
@@ -78,7 +87,9 @@ loop-word-preserved c =
     let g = c.args.cache.now.geometry in
     let n = length c.loop-word.hits.items in
     let loop = c.loop-word.invariant in
-    let plain : word_at image c.loop-word.at ≡ Some 0x00000013 = grind (arith, common_steps) in
+    let goes_on : ends_by c.loop-word.at c.in-Some.word (kind_of c.in-Some.word) ≡ Ok false =
+    cc (c.ends_at.ensures, c.in_ok-ends.was, c.if-ends.false) in
+    let plain : HasKind image c.loop-word.at Plain = (c.in-Some.word, sym c.in-Some.ensures, plain_is _ _ _ goes_on) in
     let inside = within image c.requires.block.0 n c.loop-word.at c.in-Some.word c.requires.block.1 loop.at (sym c.in-Some.ensures) in
     let longer : length c.push.new.hits.items ≡ suc n = length-push _ _ _ c.in_ok-push.ensures in
     let Plain : ℕ → Type 0 = λ m. ArePlain image m in
@@ -94,14 +105,18 @@ loop-word-preserved c =
       kept = subst Kept (sym longer) (subst At loop.at (c.fetch.ensures.kept (fetched image.entry n) loop.kept));
     }
 
-pub returns-then-word-ne-STOP-clause-refused : goal.returns-then-word-ne-STOP-clause-refused
-returns-then-word-ne-STOP-clause-refused c =
+pub returns-in_err-ends-clause-refused : goal.returns-in_err-ends-clause-refused
+returns-in_err-ends-clause-refused c =
     let image = c.args.image.now in
     let loop = c.loop-word.invariant in
-    let Q : ℕ → Type 0 = λ p. word_at image p ≡ Some c.in-Some.word in
-    let Refused : ℕ → Type 0 = λ p. IsRefused (built_successors image image.entry) image image.entry (NotBuilt p) in
-    inr (subst Refused (sym loop.at) (not_built image c.requires.block.0 (length c.loop-word.hits.items) c.in-Some.word c.requires.block.1 loop.plain
-    (subst Q loop.at (sym c.in-Some.ensures)) c.if-word-ne-PLAIN.true c.if-word-ne-STOP.true))
+    let w = c.in-Some.word in
+    let fault : FlowFault = c.in_err-ends.field-0.0 in
+    let Answer : FlowFault → Type 0 = λ fault. (fault ≡ OutOfMemory) ⊎ IsRefused (built_successors image image.entry) image image.entry fault in
+    let At : ℕ → Type 0 = λ p. word_at image p ≡ Some w in
+    let Faulty : ℕ → Type 0 = λ p. ends_by p w (kind_of w) ≡ Err fault in
+    passed_up c.from_residual.result fault Answer c.from_residual.ensures.1
+    (inr (faulty_word image c.requires.block.0 (length c.loop-word.hits.items) w fault c.requires.block.1 loop.plain
+    (subst At loop.at (sym c.in-Some.ensures)) (subst Faulty loop.at (sym c.in_err-ends.ensures))))
 
 pub returns-clause-refused : goal.returns-clause-refused
 returns-clause-refused c =
