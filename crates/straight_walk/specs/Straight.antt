@@ -54,13 +54,6 @@ abbrev pub hits_of : Geometry → ℕ → ℕ → List Bool
 hits_of g entry zero = []
 hits_of g entry (suc n) = hits_of g entry n ++ ends_in_hit g (fetched entry (suc n)) ∷ []
 
--- some words are plain and the next is a stop, and these are the hits of all their fetches
-pub record IsStraight (image : Image) (g : Geometry) (hits : List Bool) : Type 0 where
-  pub last : ℕ
-  pub plain : ArePlain image last
-  pub stop : HasKind image (image.entry + 4 * last) kinds.Stop
-  pub hits_are : hits ≡ hits_of g image.entry (suc last)
-
 abbrev pub verdict_of : Bool → Verdict
 verdict_of true = AlwaysHit
 verdict_of false = AlwaysMiss
