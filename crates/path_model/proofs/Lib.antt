@@ -1,0 +1,6 @@
+pub mod Edges
+pub mod Marked
+pub mod Reached
+pub mod Turned
+pub mod Moves
+pub mod Kept

@@ -1,0 +1,5 @@
+pub use Rattle.transition_spec.specs.Path
+pub use Rattle.cache_spec.specs.Contents
+pub mod Graph
+pub mod Marks
+pub mod Letters

@@ -1,0 +1,91 @@
+use crate::{Graph, Node, choices_of, ends_in_hit, graph_laws};
+use cache_geom::Geometry;
+use std::alloc::{AllocError, Global};
+use std::test::Fail;
+
+fn node(at: u32, first: Option<u32>, second: Option<u32>) -> Node {
+    Node { at, first, second }
+}
+
+// Three words: behind the second stands the third or the first again, and the third has none.
+const LOOP: [Node; 3] = [
+    Node {
+        at: 0x10000,
+        first: Some(1),
+        second: None,
+    },
+    Node {
+        at: 0x10004,
+        first: Some(2),
+        second: Some(0),
+    },
+    Node {
+        at: 0x10008,
+        first: None,
+        second: None,
+    },
+];
+
+fn graph_of(alloc: Global, nodes: &[Node]) -> Result<Option<Graph>, AllocError> {
+    Ok(Graph::new(nodes.to_vec(alloc)?))
+}
+
+#[test]
+fn each_fault_makes_no_graph(rt: HostRuntime) -> Result<(), Fail> {
+    let alloc = rt.alloc();
+    let end = node(0, None, None);
+    for nodes in [
+        [].as_slice(),
+        [node(0, Some(1), None)].as_slice(),
+        [node(0, Some(0), Some(1))].as_slice(),
+        [node(0, None, Some(0))].as_slice(),
+        [node(0, Some(0), Some(0))].as_slice(),
+        [end, end].as_slice(),
+        [node(0, Some(2), None), end, node(0, Some(1), None)].as_slice(),
+    ] {
+        assert!(rt; graph_of(alloc, nodes)?.is_none(), "{nodes:?}");
+    }
+    Ok(())
+}
+
+#[test]
+fn a_graph_has_at_most_65536_nodes(rt: HostRuntime) -> Result<(), Fail> {
+    let alloc = rt.alloc();
+    let mut nodes = vec![in alloc; node(0, None, None)]?;
+    for index in 0..65535 {
+        nodes[index].first = Some(index as u32 + 1);
+        nodes.push(node(0, None, None))?;
+    }
+    assert!(rt; graph_of(alloc, &nodes)?.is_some());
+    nodes[65535].first = Some(65536);
+    nodes.push(node(0, None, None))?;
+    assert!(rt; Graph::new(nodes).is_none());
+    Ok(())
+}
+
+#[test]
+fn a_graph_keeps_its_nodes(rt: HostRuntime) -> Result<(), Fail> {
+    let graph = graph_of(rt.alloc(), &LOOP)?.expect(&rt, "a graph");
+    assert_eq!(rt; graph.nodes(), LOOP.as_slice());
+    graph_laws();
+    Ok(())
+}
+
+#[test]
+fn the_choices_of_a_path_are_its_letters(rt: HostRuntime) -> Result<(), Fail> {
+    let alloc = rt.alloc();
+    let graph = graph_of(alloc, &LOOP)?.expect(&rt, "a graph");
+    assert_eq!(rt; choices_of(alloc, &graph, &[0, 1, 0, 1])?.as_slice(), b"t".as_slice());
+    assert_eq!(rt; choices_of(alloc, &graph, &[0, 1, 2])?.as_slice(), b"n".as_slice());
+    Ok(())
+}
+
+#[test]
+fn a_path_ends_in_a_hit_where_its_block_is_still_kept(rt: HostRuntime) -> Result<(), Fail> {
+    let graph = graph_of(rt.alloc(), &LOOP)?.expect(&rt, "a graph");
+    let geometry = Geometry::new(4, 1, 2).expect(&rt, "in range");
+    assert!(rt; ends_in_hit(&graph, &geometry, &[0, 1, 0]));
+    assert!(rt; !ends_in_hit(&graph, &geometry, &[0, 1, 2]));
+    assert!(rt; !ends_in_hit(&graph, &geometry, &[]));
+    Ok(())
+}
