@@ -4,3 +4,5 @@ pub mod Reached
 pub mod Turned
 pub mod Moves
 pub mod Kept
+pub mod Choices
+pub mod Walked

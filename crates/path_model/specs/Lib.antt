@@ -3,3 +3,4 @@ pub use Rattle.cache_spec.specs.Contents
 pub mod Graph
 pub mod Marks
 pub mod Letters
+pub mod Follow

@@ -5,10 +5,12 @@
 //! choices of a path, and whether its last fetch hits, each as a fact about those definitions.
 #![tactic(auto)]
 
+mod choose;
 mod graph;
 #[cfg(test)]
 mod tests;
 mod walk;
 
+pub use choose::follow;
 pub use graph::{Graph, Node, graph_laws};
 pub use walk::{choices_of, ends_in_hit};

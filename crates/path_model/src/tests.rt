@@ -1,4 +1,4 @@
-use crate::{Graph, Node, choices_of, ends_in_hit, graph_laws};
+use crate::{Graph, Node, choices_of, ends_in_hit, follow, graph_laws};
 use cache_geom::Geometry;
 use std::alloc::{AllocError, Global};
 use std::test::Fail;
@@ -87,5 +87,34 @@ fn a_path_ends_in_a_hit_where_its_block_is_still_kept(rt: HostRuntime) -> Result
     assert!(rt; ends_in_hit(&graph, &geometry, &[0, 1, 0]));
     assert!(rt; !ends_in_hit(&graph, &geometry, &[0, 1, 2]));
     assert!(rt; !ends_in_hit(&graph, &geometry, &[]));
+    Ok(())
+}
+
+#[test]
+fn choices_and_steps_name_a_path(rt: HostRuntime) -> Result<(), Fail> {
+    let alloc = rt.alloc();
+    let graph = graph_of(alloc, &LOOP)?.expect(&rt, "a graph");
+    let round = follow(alloc, &graph, b"t", 4)?.expect(&rt, "a path");
+    assert_eq!(rt; round.as_slice(), [0, 1, 0, 1].as_slice());
+    assert_eq!(rt; choices_of(alloc, &graph, &round)?.as_slice(), b"t".as_slice());
+    let straight = follow(alloc, &graph, b"n", 3)?.expect(&rt, "a path");
+    assert_eq!(rt; straight.as_slice(), [0, 1, 2].as_slice());
+    Ok(())
+}
+
+#[test]
+fn some_choices_and_steps_name_no_path(rt: HostRuntime) -> Result<(), Fail> {
+    let alloc = rt.alloc();
+    let graph = graph_of(alloc, &LOOP)?.expect(&rt, "a graph");
+    for (choices, steps) in [
+        (b"".as_slice(), 0),
+        (b"n".as_slice(), 4),
+        (b"tt".as_slice(), 4),
+        (b"".as_slice(), 3),
+        (b"x".as_slice(), 3),
+    ] {
+        assert!(rt; follow(alloc, &graph, choices, steps)?.is_none(), "{choices:?} {steps}");
+    }
+    assert!(rt; follow(alloc, &graph, b"t", u64::MAX).is_err());
     Ok(())
 }
