@@ -26,13 +26,13 @@ letter_by-unique count None (Some second) d a b fit one two = one ∙ sym two
 letter_by-unique count (Some first) None d a b fit one two = one ∙ sym two
 letter_by-unique count (Some first) (Some second) d a b fit one two = ⊎_elim
     (λ (n : (d ≡ first) × (a ≡ codes "n")). ⊎_elim
-      (λ (m : (d ≡ first) × (b ≡ codes "n")). n.1 ∙ sym m.1)
-      (λ (m : (d ≡ second) × (b ≡ codes "t")). absurd (two_apart count first second fit (sym n.0 ∙ m.0)))
-      two)
+    (λ (m : (d ≡ first) × (b ≡ codes "n")). n.1 ∙ sym m.1)
+    (λ (m : (d ≡ second) × (b ≡ codes "t")). absurd (two_apart count first second fit (sym n.0 ∙ m.0)))
+    two)
     (λ (n : (d ≡ second) × (a ≡ codes "t")). ⊎_elim
-      (λ (m : (d ≡ first) × (b ≡ codes "n")). absurd (two_apart count first second fit (sym m.0 ∙ n.0)))
-      (λ (m : (d ≡ second) × (b ≡ codes "t")). n.1 ∙ sym m.1)
-      two)
+    (λ (m : (d ≡ first) × (b ≡ codes "n")). absurd (two_apart count first second fit (sym m.0 ∙ n.0)))
+    (λ (m : (d ≡ second) × (b ≡ codes "t")). n.1 ∙ sym m.1)
+    two)
     one
 
 letter-unique : (count : ℕ) (o : Option Node) (d : ℕ) (a b : List ℕ) → ((node : Node) → o ≡ Some node → IsTrue (is_fit count node))
@@ -63,18 +63,18 @@ next_by_letter : (first second letter to k : ℕ) → next_by (Some first) (Some
     → ((letter ≡ 110) × (first ≡ to) × (1 ≡ k)) ⊎ ((letter ≡ 116) × (second ≡ to) × (1 ≡ k))
 next_by_letter first second letter to k is = ⊎_elim
     (λ (n : letter ≡ 110).
-      let parts = some_pair_parts first to 1 k (ap (λ b. if b then Some (first, 1) else (if letter == 116 then Some (second, 1) else None)) (sym (eq-eqb letter 110 n)) ∙ is) in
-      inl (n, parts.0, parts.1))
+    let parts = some_pair_parts first to 1 k (ap (λ b. if b then Some (first, 1) else (if letter == 116 then Some (second, 1) else None)) (sym (eq-eqb letter 110 n)) ∙ is) in
+    inl (n, parts.0, parts.1))
     (λ (other : letter ≡ 110 → ⊥).
-      let rest : (if letter == 116 then Some (second, 1) else None) ≡ Some (to, k) =
-        ap (λ b. if b then Some (first, 1) else (if letter == 116 then Some (second, 1) else None)) (sym (ne_eqb letter 110 other)) ∙ is in
-      ⊎_elim
-        (λ (t : letter ≡ 116).
-          let parts = some_pair_parts second to 1 k (ap (λ b. if b then Some (second, 1) else None) (sym (eq-eqb letter 116 t)) ∙ rest) in
-          inr (t, parts.0, parts.1))
-        (λ (no : letter ≡ 116 → ⊥).
-          absurd (none-some (to, k) (ap (λ b. if b then Some (second, 1) else None) (sym (ne_eqb letter 116 no)) ∙ rest)))
-        (cases_eq letter 116))
+    let rest : (if letter == 116 then Some (second, 1) else None) ≡ Some (to, k) =
+    ap (λ b. if b then Some (first, 1) else (if letter == 116 then Some (second, 1) else None)) (sym (ne_eqb letter 110 other)) ∙ is in
+    ⊎_elim
+    (λ (t : letter ≡ 116).
+    let parts = some_pair_parts second to 1 k (ap (λ b. if b then Some (second, 1) else None) (sym (eq-eqb letter 116 t)) ∙ rest) in
+    inr (t, parts.0, parts.1))
+    (λ (no : letter ≡ 116 → ⊥).
+    absurd (none-some (to, k) (ap (λ b. if b then Some (second, 1) else None) (sym (ne_eqb letter 116 no)) ∙ rest)))
+    (cases_eq letter 116))
     (cases_eq letter 110)
 
 -- what a move of the code is
@@ -87,9 +87,9 @@ next_by-right (Some first) None rest to k is =
 next_by-right (Some first) (Some second) [] to k is = absurd (cc)
 next_by-right (Some first) (Some second) (letter ∷ rest) to k is = ⊎_elim
     (λ (n : (letter ≡ 110) × (first ≡ to) × (1 ≡ k)).
-      (inl (ap Some n.1), inl (sym n.1, ap (λ n. take n (letter ∷ rest)) (sym n.2) ∙ ap (λ x. x ∷ []) n.0), omega (arith, n.2)))
+    (inl (ap Some n.1), inl (sym n.1, ap (λ n. take n (letter ∷ rest)) (sym n.2) ∙ ap (λ x. x ∷ []) n.0), omega (arith, n.2)))
     (λ (t : (letter ≡ 116) × (second ≡ to) × (1 ≡ k)).
-      (inr (ap Some t.1), inr (sym t.1, ap (λ n. take n (letter ∷ rest)) (sym t.2) ∙ ap (λ x. x ∷ []) t.0), omega (arith, t.2)))
+    (inr (ap Some t.1), inr (sym t.1, ap (λ n. take n (letter ∷ rest)) (sym t.2) ∙ ap (λ x. x ∷ []) t.0), omega (arith, t.2)))
     (next_by_letter first second letter to k is)
 
 -- a path's move is the one of the code
@@ -103,9 +103,9 @@ next_by-only count (Some first) None d letter rest fit leads is =
     ap (λ x. Some (x, 0)) same ∙ ap (λ xs. Some (d, length xs)) (sym is)
 next_by-only count (Some first) (Some second) d letter rest fit leads is = ⊎_elim
     (λ (n : (d ≡ first) × (letter ≡ codes "n")).
-      let P : List ℕ → Type 0 = λ xs. next_by (Some first) (Some second) (slice_get (xs ++ rest) 0) ≡ Some (d, length xs) in
-      subst P (sym n.1) (ap (λ x. Some (x, 1)) (sym n.0)))
+    let P : List ℕ → Type 0 = λ xs. next_by (Some first) (Some second) (slice_get (xs ++ rest) 0) ≡ Some (d, length xs) in
+    subst P (sym n.1) (ap (λ x. Some (x, 1)) (sym n.0)))
     (λ (n : (d ≡ second) × (letter ≡ codes "t")).
-      let P : List ℕ → Type 0 = λ xs. next_by (Some first) (Some second) (slice_get (xs ++ rest) 0) ≡ Some (d, length xs) in
-      subst P (sym n.1) (ap (λ x. Some (x, 1)) (sym n.0)))
+    let P : List ℕ → Type 0 = λ xs. next_by (Some first) (Some second) (slice_get (xs ++ rest) 0) ≡ Some (d, length xs) in
+    subst P (sym n.1) (ap (λ x. Some (x, 1)) (sym n.0)))
     is

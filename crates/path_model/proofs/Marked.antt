@@ -30,24 +30,24 @@ mark_cases before after from to m one marked = ⊎_elim
 pub marked_more : (nodes : List Node) (marks mid after : List Bool) (i : ℕ) (node : Node) → slice_get nodes i ≡ Some node
     → MarksOne marks mid i node.first → MarksOne mid after i node.second → AreMarked nodes i marks → AreMarked nodes (i + 1) after
 marked_more nodes marks mid after i node found one two were = record {
-    sound = λ m marked. ⊎_elim
+  sound = λ m marked. ⊎_elim
       (λ (earlier : IsMarked mid m). ⊎_elim
-        (λ (earliest : IsMarked marks m). were.sound m earliest)
-        (λ (first : (node.first ≡ Some m) × (i < m)). (i, first.1, successor-from_node nodes i m node found (inl first.0)))
-        (mark_cases marks mid i node.first m one earlier))
+      (λ (earliest : IsMarked marks m). were.sound m earliest)
+      (λ (first : (node.first ≡ Some m) × (i < m)). (i, first.1, successor-from_node nodes i m node found (inl first.0)))
+      (mark_cases marks mid i node.first m one earlier))
       (λ (second : (node.second ≡ Some m) × (i < m)). (i, second.1, successor-from_node nodes i m node found (inr second.0)))
       (mark_cases mid after i node.second m two marked);
-    complete = λ n m within up below leads. ⊎_elim
+  complete = λ n m within up below leads. ⊎_elim
       (λ (same : n ≡ i).
-        let named = node-from_successor nodes n m leads in
-        let is : named.0 ≡ node = same_Some named.0 node (cc) in
-        ⊎_elim
-          (λ (first : named.0.first ≡ Some m). two.kept m (one.set m (cc) (omega arith) (omega (arith, one.as_long, two.as_long))))
-          (λ (second : named.0.second ≡ Some m). two.set m (cc) (omega arith) (omega (arith, one.as_long, two.as_long)))
-          named.2)
+      let named = node-from_successor nodes n m leads in
+      let is : named.0 ≡ node = same_Some named.0 node (cc) in
+      ⊎_elim
+      (λ (first : named.0.first ≡ Some m). two.kept m (one.set m (cc) (omega arith) (omega (arith, one.as_long, two.as_long))))
+      (λ (second : named.0.second ≡ Some m). two.set m (cc) (omega arith) (omega (arith, one.as_long, two.as_long)))
+      named.2)
       (λ (other : n ≡ i → ⊥). two.kept m (one.kept m (were.complete n m (omega arith) up (omega (arith, one.as_long, two.as_long)) leads)))
       (cases_eq n i);
-  }
+}
 
 -- no mark is set at first
 pub unmarked : (n m : ℕ) → slice_index_or (replicate n false) m false ≡ false
@@ -69,7 +69,7 @@ marked-all_set marks count long each =
     let from_one : List Bool = take (count - 1) (drop 1 marks) in
     let long_one : length from_one ≡ count - 1 = search (rules, places) in
     list_all-from_AllPass (λ (marked : Bool). marked) from_one
-      (All-from_get_or (λ (marked : Bool). marked ≡ true) from_one false
-        (λ i below.
-          let same : get_or from_one i false ≡ get_or marks (i + 1) false = grind (arith, places) in
-          same ∙ each (i + 1) (omega arith) (omega arith)))
+    (All-from_get_or (λ (marked : Bool). marked ≡ true) from_one false
+    (λ i below.
+    let same : get_or from_one i false ≡ get_or marks (i + 1) false = grind (arith, places) in
+    same ∙ each (i + 1) (omega arith) (omega arith)))

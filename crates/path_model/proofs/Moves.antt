@@ -52,10 +52,10 @@ choices_further nodes path letters more i x below path_is were more_is =
     let one : reverse (take (i + 1) path) ≡ a ∷ earlier = reverse-more path i x (omega arith) in
     let two : reverse (take (i + 1 + 1) path) ≡ b ∷ a ∷ earlier = reverse-more path (i + 1) x below ∙ ap (λ xs. b ∷ xs) one in
     let whole : reverse path ≡ reverse (drop (i + 1 + 1) path) ++ b ∷ a ∷ earlier =
-      reverse-split path (i + 1 + 1) ∙ ap (λ xs. reverse (drop (i + 1 + 1) path) ++ xs) two in
+    reverse-split path (i + 1 + 1) ∙ ap (λ xs. reverse (drop (i + 1 + 1) path) ++ xs) two in
     let ends = IsPath-suffix step 0 b (reverse (drop (i + 1 + 1) path)) (a ∷ earlier) (subst (λ (xs : List ℕ). IsPath step 0 xs) whole path_is) in
     subst (λ (xs : List ℕ). HasChoices step xs more) (sym two)
-      (letters, letter_to (slice_get nodes a) b, subst (λ (xs : List ℕ). HasChoices step xs letters) one were, letter_to-right nodes a b ends.0, more_is)
+    (letters, letter_to (slice_get nodes a) b, subst (λ (xs : List ℕ). HasChoices step xs letters) one were, letter_to-right nodes a b ends.0, more_is)
 
 -- the same, from the place of the further member
 pub choices_more : (nodes : List Node) (path letters more : List ℕ) (i x : ℕ) → 1 ≤ i → i < length path → IsPath (graph_step nodes) 0 (reverse path)
@@ -66,8 +66,8 @@ choices_more nodes path letters more i x some below path_is were more_is =
     let k : ℕ = i - 1 in
     let same : i ≡ k + 1 = omega arith in
     let P : ℕ → Type 0 = λ i. i < length path → HasChoices (graph_step nodes) (reverse (take i path)) letters
-      → more ≡ letters ++ letter_to (slice_get nodes (get_or path k x)) (get_or path i x)
-      → HasChoices (graph_step nodes) (reverse (take (i + 1) path)) more in
+    → more ≡ letters ++ letter_to (slice_get nodes (get_or path k x)) (get_or path i x)
+    → HasChoices (graph_step nodes) (reverse (take (i + 1) path)) more in
     subst P (sym same) (λ below were more_is. choices_further nodes path letters more k x below path_is were more_is) below were more_is
 
 -- a path of at most one member has no choices

@@ -34,14 +34,14 @@ path_begins nodes (d ∷ c ∷ earlier) path =
 -- the walk begins at node 0
 pub walked_none : (nodes : List Node) (steps : ℕ) (choices members : List ℕ) → 1 ≤ steps → members ≡ 0 ∷ [] → IsWalked nodes steps choices members 0 0
 walked_none nodes steps choices members some begun = record {
-    earlier = [];
-    ends = begun;
-    path = refl;
-    takes = refl;
-    within = omega arith;
-    short = omega (arith, ap length begun);
-    only = λ other followed. path_begins nodes other followed.path;
-  }
+  earlier = [];
+  ends = begun;
+  path = refl;
+  takes = refl;
+  within = omega arith;
+  short = omega (arith, ap length begun);
+  only = λ other followed. path_begins nodes other followed.path;
+}
 
 slice_get-drop : (n : ℕ) (xs : List ℕ) → slice_get xs n ≡ slice_get (drop n xs) 0
 slice_get-drop zero xs = refl
@@ -65,29 +65,46 @@ move-only nodes last d letter rest graph leads is =
     ap (λ o. next_to o (slice_get (letter ++ rest) 0)) named.1
     ∙ next_by-only (length nodes) named.0.first named.0.second d letter rest fit named.2 is_by
 
+-- the choice at the place up to which choices are taken
+choice_at : (choices before letter rest : List ℕ) (used : ℕ) → used ≤ length choices → before ≡ take used choices → choices ≡ before ++ letter ++ rest
+    → slice_get choices used ≡ slice_get (letter ++ rest) 0
+choice_at choices before letter rest used within same all =
+    let long : length before ≡ used = ap length same ∙ length-take-le used choices within in
+    let left : drop used choices ≡ letter ++ rest =
+    ap (drop used) (all ∙ append_assoc before letter rest) ∙ drop_at before (letter ++ rest) used long in
+    slice_get-drop used choices ∙ ap (λ xs. slice_get xs 0) left
+
+-- the move from a member of a path leads to the next one
+move_on : (nodes : List Node) (choices front earlier : List ℕ) (last used d : ℕ) → IsGraph nodes
+    → IsPath (graph_step nodes) 0 (front ++ d ∷ last ∷ earlier) → HasChoices (graph_step nodes) (front ++ d ∷ last ∷ earlier) choices
+    → HasChoices (graph_step nodes) (last ∷ earlier) (take used choices) → used ≤ length choices
+    → (letter : List ℕ) × (next_to (slice_get nodes last) (slice_get choices used) ≡ Some (d, length letter))
+move_on nodes choices front earlier last used d graph path takes so_far within =
+    let leads = (IsPath-suffix (graph_step nodes) 0 d front (last ∷ earlier) path).0 in
+    let has = choices-prefix nodes d front (last ∷ earlier) choices takes in
+    let same = choices-unique nodes (last ∷ earlier) has.2.0 (take used choices) graph has.2.2 so_far in
+    let choice = choice_at choices has.2.0 has.2.1 has.1 used within same (has.3 ∙ ap (λ xs. xs ++ has.1) has.2.4) in
+    (has.2.1, ap (λ o. next_to (slice_get nodes last) o) choice ∙ move-only nodes last d has.2.1 has.1 graph leads has.2.3)
+
+-- a path that goes on from the members has one more of them
+one_more : (other later tail : List ℕ) → other ≡ later ++ tail → length tail < length other → (front : List ℕ) × (d : ℕ) × (other ≡ front ++ d ∷ tail)
+one_more other later tail on more =
+    let first = last_of later (omega (arith, ap length on, length-append later tail)) in
+    (first.0, first.1, on ∙ ap (λ xs. xs ++ tail) first.2 ∙ append_assoc first.0 (first.1 ∷ []) tail)
+
 -- the next member of a path that is told so is the one of the move
 pub next-only : (nodes : List Node) (steps : ℕ) (choices members : List ℕ) (last used : ℕ) (other : List ℕ) → IsGraph nodes
     → IsWalked nodes steps choices members last used → length members < steps → IsFollowed nodes steps choices other
     → (front : List ℕ) × (d : ℕ) × (letter : List ℕ) × (other ≡ front ++ d ∷ members) × (next_to (slice_get nodes last) (slice_get choices used) ≡ Some (d, length letter))
 next-only nodes steps choices members last used other graph walked more followed =
-    let step : ℕ → Result (List ℕ) (Unit {0}) = graph_step nodes in
     let tail : List ℕ = last ∷ walked.earlier in
     let on = walked.only other followed in
-    let some : 1 ≤ length on.0 = omega (arith, followed.as_long, ap length on.1, length-append on.0 tail, ap length walked.ends) in
-    let first = last_of on.0 some in
-    let d : ℕ = first.1 in
-    let whole : other ≡ first.0 ++ d ∷ tail = on.1 ∙ ap (λ xs. xs ++ tail) first.2 ∙ append_assoc first.0 (d ∷ []) tail in
-    let path = IsPath-suffix step 0 d first.0 tail (subst (λ (xs : List ℕ). IsPath step 0 xs) whole followed.path) in
-    let has = choices-prefix nodes d first.0 tail choices (subst (λ (xs : List ℕ). HasChoices step xs choices) whole followed.takes) in
-    let before : List ℕ = has.2.0 in
-    let letter : List ℕ = has.2.1 in
-    let same : before ≡ take used choices = choices-unique nodes tail before (take used choices) graph has.2.2 walked.takes in
-    let all : choices ≡ before ++ (letter ++ has.1) = has.3 ∙ ap (λ xs. xs ++ has.1) has.2.4 ∙ append_assoc before letter has.1 in
-    let long : length before ≡ used = ap length same ∙ length-take-le used choices walked.within in
-    let left : drop used choices ≡ letter ++ has.1 = ap (drop used) all ∙ drop_at before (letter ++ has.1) used long in
-    let choice : slice_get choices used ≡ slice_get (letter ++ has.1) 0 = slice_get-drop used choices ∙ ap (λ xs. slice_get xs 0) left in
-    (first.0, d, letter, whole ∙ ap (λ xs. first.0 ++ d ∷ xs) (sym walked.ends),
-      ap (λ o. next_to (slice_get nodes last) o) choice ∙ move-only nodes last d letter has.1 graph path.0 has.2.3)
+    let next = one_more other on.0 tail on.1 (omega (arith, followed.as_long, ap length walked.ends)) in
+    let move = move_on nodes choices next.0 walked.earlier last used next.1 graph
+    (subst (λ (xs : List ℕ). IsPath (graph_step nodes) 0 xs) next.2 followed.path)
+    (subst (λ (xs : List ℕ). HasChoices (graph_step nodes) xs choices) next.2 followed.takes)
+    walked.takes walked.within in
+    (next.0, next.1, move.0, next.2 ∙ ap (λ xs. next.0 ++ next.1 ∷ xs) (sym walked.ends), move.1)
 
 move-right : (o : Option Node) (rest : List ℕ) (to k : ℕ) → next_to o (slice_get rest 0) ≡ Some (to, k)
     → (node : Node) × (o ≡ Some node) × LeadsTo node to × IsLetter (successors o) to (take k rest) × (k ≤ length rest)
@@ -112,9 +129,9 @@ walked_more nodes steps choices members last used to k graph walked more next =
       within = omega (arith, move.4, walked.within, length-drop used choices);
       short = omega (arith, more);
       only = λ other followed.
-        let on = next-only nodes steps choices members last used other graph walked more followed in
-        let same : on.1 ≡ to = (some_pair_parts on.1 to (length on.2) k (sym on.4 ∙ next)).0 in
-        (on.0, on.3 ∙ ap (λ x. on.0 ++ x ∷ members) same ∙ ap (λ xs. on.0 ++ to ∷ xs) walked.ends);
+          let on = next-only nodes steps choices members last used other graph walked more followed in
+          let same : on.1 ≡ to = (some_pair_parts on.1 to (length on.2) k (sym on.4 ∙ next)).0 in
+          (on.0, on.3 ∙ ap (λ x. on.0 ++ x ∷ members) same ∙ ap (λ xs. on.0 ++ to ∷ xs) walked.ends);
     }
 
 -- where there is no move, there is no path that is told so
@@ -135,7 +152,7 @@ walked_all nodes steps choices members last used walked done taken =
       path = subst (λ (xs : List ℕ). IsPath step 0 xs) (sym walked.ends) walked.path;
       as_long = omega (arith, walked.short, done);
       takes = subst (λ (xs : List ℕ). HasChoices step xs choices) (sym walked.ends)
-        (subst (λ (cs : List ℕ). HasChoices step (last ∷ walked.earlier) cs) (take_all used choices taken) walked.takes);
+          (subst (λ (cs : List ℕ). HasChoices step (last ∷ walked.earlier) cs) (take_all used choices taken) walked.takes);
     }
 
 -- with all steps done and choices left over, there is no path that is told so

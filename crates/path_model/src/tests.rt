@@ -30,6 +30,16 @@ fn graph_of(alloc: Global, nodes: &[Node]) -> Result<Option<Graph>, AllocError> 
     Ok(Graph::new(nodes.to_vec(alloc)?))
 }
 
+// Each node leads to the next one.
+fn chain(alloc: Global, count: u32) -> Result<Vec<Node>, AllocError> {
+    let mut nodes = Vec::new(alloc);
+    for next in 1..count {
+        nodes.push(node(0, Some(next), None))?;
+    }
+    nodes.push(node(0, None, None))?;
+    Ok(nodes)
+}
+
 #[test]
 fn each_fault_makes_no_graph(rt: HostRuntime) -> Result<(), Fail> {
     let alloc = rt.alloc();
@@ -51,15 +61,8 @@ fn each_fault_makes_no_graph(rt: HostRuntime) -> Result<(), Fail> {
 #[test]
 fn a_graph_has_at_most_65536_nodes(rt: HostRuntime) -> Result<(), Fail> {
     let alloc = rt.alloc();
-    let mut nodes = vec![in alloc; node(0, None, None)]?;
-    for index in 0..65535 {
-        nodes[index].first = Some(index as u32 + 1);
-        nodes.push(node(0, None, None))?;
-    }
-    assert!(rt; graph_of(alloc, &nodes)?.is_some());
-    nodes[65535].first = Some(65536);
-    nodes.push(node(0, None, None))?;
-    assert!(rt; Graph::new(nodes).is_none());
+    assert!(rt; Graph::new(chain(alloc, 65_536)?).is_some());
+    assert!(rt; Graph::new(chain(alloc, 65_537)?).is_none());
     Ok(())
 }
 
@@ -68,15 +71,6 @@ fn a_graph_keeps_its_nodes(rt: HostRuntime) -> Result<(), Fail> {
     let graph = graph_of(rt.alloc(), &LOOP)?.expect(&rt, "a graph");
     assert_eq!(rt; graph.nodes(), LOOP.as_slice());
     graph_laws();
-    Ok(())
-}
-
-#[test]
-fn the_choices_of_a_path_are_its_letters(rt: HostRuntime) -> Result<(), Fail> {
-    let alloc = rt.alloc();
-    let graph = graph_of(alloc, &LOOP)?.expect(&rt, "a graph");
-    assert_eq!(rt; choices_of(alloc, &graph, &[0, 1, 0, 1])?.as_slice(), b"t".as_slice());
-    assert_eq!(rt; choices_of(alloc, &graph, &[0, 1, 2])?.as_slice(), b"n".as_slice());
     Ok(())
 }
 
@@ -91,14 +85,21 @@ fn a_path_ends_in_a_hit_where_its_block_is_still_kept(rt: HostRuntime) -> Result
 }
 
 #[test]
-fn choices_and_steps_name_a_path(rt: HostRuntime) -> Result<(), Fail> {
+fn choices_and_steps_name_a_path_that_has_those_choices(rt: HostRuntime) -> Result<(), Fail> {
     let alloc = rt.alloc();
     let graph = graph_of(alloc, &LOOP)?.expect(&rt, "a graph");
-    let round = follow(alloc, &graph, b"t", 4)?.expect(&rt, "a path");
-    assert_eq!(rt; round.as_slice(), [0, 1, 0, 1].as_slice());
-    assert_eq!(rt; choices_of(alloc, &graph, &round)?.as_slice(), b"t".as_slice());
-    let straight = follow(alloc, &graph, b"n", 3)?.expect(&rt, "a path");
-    assert_eq!(rt; straight.as_slice(), [0, 1, 2].as_slice());
+    for (choices, steps, members) in [
+        (b"t".as_slice(), 4, [0, 1, 0, 1].as_slice()),
+        (b"n".as_slice(), 3, [0, 1, 2].as_slice()),
+    ] {
+        match follow(alloc, &graph, choices, steps)? {
+            None => assert!(rt; false, "a path of {steps} members"),
+            Some(path) => {
+                assert_eq!(rt; path.as_slice(), members);
+                assert_eq!(rt; choices_of(alloc, &graph, &path)?.as_slice(), choices);
+            }
+        }
+    }
     Ok(())
 }
 
@@ -113,7 +114,10 @@ fn some_choices_and_steps_name_no_path(rt: HostRuntime) -> Result<(), Fail> {
         (b"".as_slice(), 3),
         (b"x".as_slice(), 3),
     ] {
-        assert!(rt; follow(alloc, &graph, choices, steps)?.is_none(), "{choices:?} {steps}");
+        assert!(rt;
+            follow(alloc, &graph, choices, steps)?.is_none(),
+            "{choices:?} {steps}"
+        );
     }
     assert!(rt; follow(alloc, &graph, b"t", u64::MAX).is_err());
     Ok(())

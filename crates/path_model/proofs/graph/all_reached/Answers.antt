@@ -9,6 +9,6 @@ pub returns : goal.returns
 returns c = (
   λ t m up below. c.mark_all.ensures.sound m (c.all_marked.ensures.0 t m up below),
   λ reached. c.all_marked.ensures.1 (λ m up below.
-    let from = reached m up below in
-    c.mark_all.ensures.complete from.0 m (omega (arith, from.1)) from.1 (omega arith) from.2),
+      let from = reached m up below in
+      c.mark_all.ensures.complete from.0 m (omega (arith, from.1)) from.1 (omega arith) from.2),
 )

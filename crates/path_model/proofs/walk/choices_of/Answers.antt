@@ -15,7 +15,7 @@ pub loop-index-preserved : goal.loop-index-preserved
 loop-index-preserved c = choices_more c.args.graph.now c.args.path.now c.loop-index.letters.items c.push_letter.new.letters.items c.loop-index.index 0
     c.loop-index.auto.index (omega arith) c.requires c.loop-index.invariant
     (c.in_ok-push_letter.ensures ∙ ap (λ xs. c.loop-index.letters.items ++ xs) (c.letter_to.ensures
-      ∙ ap (λ nodes. letter_to (slice_get nodes (get_or c.args.path.now (c.loop-index.index - 1) 0)) (get_or c.args.path.now c.loop-index.index 0)) c.nodes-nodes.ensures.same))
+    ∙ ap (λ nodes. letter_to (slice_get nodes (get_or c.args.path.now (c.loop-index.index - 1) 0)) (get_or c.args.path.now c.loop-index.index 0)) c.nodes-nodes.ensures.same))
 
 pub returns : goal.returns
 returns c =
