@@ -1,6 +1,6 @@
 -- The choices of a path: there is one list of them, and they tell each move.
-use Rattle.std.proofs.Common.{◌≡◌, ℕ, zero, suc, ◌+◌, ◌<◌, ◌≤◌, ◌⊎◌, inl, inr, ⊎_elim, true, false, List, [], ◌∷◌, ◌++◌, length, take, drop, Option, Some, None, refl, ap, sym, ◌∙◌, subst, arith, IsTrue, codes, append_assoc, ◌==◌, if◌then◌else◌, eq-eqb}
-use Rattle.std.specs.Prelude.{slice_get, Result, Ok, Err}
+use Rattle.std.proofs.Common.{◌≡◌, ℕ, ◌≤◌, ◌⊎◌, inl, inr, ⊎_elim, List, [], ◌∷◌, ◌++◌, length, take, Option, Some, None, refl, ap, sym, ◌∙◌, subst, arith, IsTrue, codes, append_assoc, ◌==◌, if◌then◌else◌, eq-eqb}
+use Rattle.std.specs.Prelude.{slice_get, Ok}
 use Rattle.std.specs.Option.{option_to_list}
 use Rattle.std.proofs.lemmas.Bool.{cases_eq, ne_eqb}
 use Rattle.std.proofs.lemmas.Option.{some_pair_parts, none-some}
@@ -9,8 +9,8 @@ use Rattle.std.proofs.lemmas.Grind.{common_steps}
 use Rattle.transition_spec.specs.Path.{IsLetter, HasChoices}
 use Rattle.path_model.specs.declared.graph.Node.{Node}
 use Rattle.path_model.specs.Graph.{IsGraph, successors, graph_step, are_fit, is_fit}
-use Rattle.path_model.specs.Follow.{next_by, next_to}
-use Rattle.path_model.proofs.Edges.{LeadsTo, fit_at}
+use Rattle.path_model.specs.Follow.{next_by}
+use Rattle.path_model.proofs.Edges.{fit_at}
 
 -- the letter of a move by two successors
 abbrev pub IsLetterBy : Option ℕ → Option ℕ → ℕ → List ℕ → Type 0

@@ -1,5 +1,5 @@
 -- The marks, one node further.
-use Rattle.std.proofs.Common.{rules, ◌≡◌, ℕ, zero, suc, ◌+◌, ◌-◌, ◌<◌, ◌≤◌, ◌⊎◌, IsTrue, take, drop, replicate, inl, inr, ⊎_elim, Bool, true, false, List, length, Some, refl, sym, subst, ◌∙◌, arith}
+use Rattle.std.proofs.Common.{rules, ◌≡◌, ℕ, zero, suc, ◌+◌, ◌-◌, ◌<◌, ◌≤◌, ◌⊎◌, IsTrue, take, drop, replicate, inl, inr, ⊎_elim, Bool, true, false, List, length, Some, refl, sym, ◌∙◌, arith}
 use Rattle.std.specs.Prelude.{slice_get, slice_index_or}
 use Rattle.std.proofs.lemmas.Bool.{cases_eq}
 use Rattle.std.proofs.lemmas.Option.{same_Some}
@@ -8,11 +8,9 @@ use Rattle.std.proofs.Math.ListN.{get_or}
 use Rattle.std.proofs.lemmas.List.{places}
 use Rattle.std.proofs.lemmas.List.Elements.{All-get_or, All-from_get_or}
 use Rattle.std.proofs.lemmas.List.Sums.{AllPass-from_list_all, list_all-from_AllPass}
-use Rattle.transition_spec.specs.Path.{IsSuccessor}
 use Rattle.path_model.specs.declared.graph.Node.{Node}
-use Rattle.path_model.specs.Graph.{graph_step}
 use Rattle.path_model.specs.Marks.{IsMarked, AreMarked, MarksOne}
-use Rattle.path_model.proofs.Edges.{LeadsTo, successor-from_node, node-from_successor}
+use Rattle.path_model.proofs.Edges.{successor-from_node, node-from_successor}
 
 set_or_not : (b : Bool) → (b ≡ true) ⊎ (b ≡ true → ⊥)
 set_or_not true = inl refl

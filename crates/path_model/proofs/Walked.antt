@@ -1,14 +1,13 @@
 -- A path that is followed, at one of its members.
-use Rattle.std.proofs.Common.{◌≡◌, ℕ, zero, suc, ◌+◌, ◌<◌, ◌≤◌, ◌⊎◌, inl, inr, List, [], ◌∷◌, ◌++◌, length, take, drop, Option, Some, None, refl, ap, sym, ◌∙◌, subst, arith, append_assoc, length-take-le, length-append}
+use Rattle.std.proofs.Common.{◌≡◌, ℕ, zero, suc, ◌+◌, ◌<◌, ◌≤◌, List, [], ◌∷◌, ◌++◌, length, take, drop, Option, Some, None, refl, ap, sym, ◌∙◌, subst, arith, append_assoc, length-take-le, length-append}
 use Rattle.std.specs.Prelude.{slice_get, Result}
 use Rattle.std.proofs.Math.Seq.{take-add}
 use Rattle.std.proofs.lemmas.List.{take_all, drop_at, length-drop, nil_from_length}
 use Rattle.std.proofs.lemmas.Option.{some_pair_parts, none-some}
-use Rattle.std.proofs.lemmas.Grind.{common_steps}
 use Rattle.transition_spec.specs.Path.{IsPath, IsSuccessor, IsLetter, HasChoices}
 use Rattle.path_model.specs.declared.graph.Node.{Node}
-use Rattle.path_model.specs.Graph.{IsGraph, successors, graph_step, is_fit}
-use Rattle.path_model.specs.Follow.{IsFollowed, next_by, next_to}
+use Rattle.path_model.specs.Graph.{IsGraph, successors, graph_step}
+use Rattle.path_model.specs.Follow.{IsFollowed, next_to}
 use Rattle.path_model.proofs.Edges.{LeadsTo, node-from_successor, successor-from_node, fit_at}
 use Rattle.path_model.proofs.Moves.{IsPath-suffix}
 use Rattle.path_model.proofs.Choices.{choices-unique, choices-prefix, next_by-right, next_by-only}

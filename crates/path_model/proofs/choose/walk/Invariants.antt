@@ -1,4 +1,4 @@
-use Rattle.std.proofs.Common.{ℕ, ◌-◌, length, reverse}
+use Rattle.std.proofs.Common.{◌-◌, length, reverse}
 use Rattle.path_model.proofs.Walked.{IsWalked}
 use Rattle.path_model.proofs.choose.walk.Given as goal
 

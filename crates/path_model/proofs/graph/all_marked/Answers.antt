@@ -1,4 +1,4 @@
-use Rattle.std.proofs.Common.{sym, ◌∙◌, refl}
+use Rattle.std.proofs.Common.{sym, ◌∙◌}
 use Rattle.path_model.proofs.Marked.{all_set-marked, marked-all_set}
 use Rattle.path_model.proofs.graph.all_marked.Goals as goal
 

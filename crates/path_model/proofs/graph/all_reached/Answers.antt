@@ -1,4 +1,4 @@
-use Rattle.std.proofs.Common.{◌<◌, length, arith}
+use Rattle.std.proofs.Common.{arith}
 use Rattle.path_model.proofs.Marked.{unmarked}
 use Rattle.path_model.proofs.graph.all_reached.Goals as goal
 

@@ -1,7 +1,5 @@
-use Rattle.std.proofs.Common.{refl, arith}
-use Rattle.std.specs.Prelude.{slice_get}
+use Rattle.std.proofs.Common.{arith}
 use Rattle.std.proofs.lemmas.Option.{slice_get-get_or}
-use Rattle.path_model.specs.declared.graph.Node.{Node}
 use Rattle.path_model.proofs.Marked.{marked_more}
 use Rattle.path_model.proofs.graph.mark_all.Goals as goal
 

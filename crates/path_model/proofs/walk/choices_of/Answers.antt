@@ -1,4 +1,4 @@
-use Rattle.std.proofs.Common.{ℕ, List, ◌≡◌, ◌∙◌, ◌++◌, ◌-◌, ap, take, reverse, subst, arith}
+use Rattle.std.proofs.Common.{ℕ, List, ◌∙◌, ◌++◌, ◌-◌, ap, reverse, subst, arith}
 use Rattle.std.proofs.lemmas.List.{take_all}
 use Rattle.std.specs.Prelude.{slice_get}
 use Rattle.std.proofs.Math.ListN.{get_or}
