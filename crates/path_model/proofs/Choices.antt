@@ -16,9 +16,11 @@ use Rattle.path_model.proofs.Edges.{fit_at}
 abbrev pub IsLetterBy : Option ℕ → Option ℕ → ℕ → List ℕ → Type 0
 IsLetterBy first second d letter = IsLetter {C = ℕ} {F = Unit {0}} (Ok (option_to_list first ++ option_to_list second)) d letter
 
+-- two fit successors differ
 two_apart : (count first second : ℕ) → IsTrue (are_fit count (Some first) (Some second)) → first ≡ second → ⊥
 two_apart count first second fit same = grind (arith, nat_tests)
 
+-- a move by two fit successors has one letter
 letter_by-unique : (count : ℕ) (first second : Option ℕ) (d : ℕ) (a b : List ℕ) → IsTrue (are_fit count first second)
     → IsLetterBy first second d a → IsLetterBy first second d b → a ≡ b
 letter_by-unique count None None d a b fit one two = one ∙ sym two
@@ -35,6 +37,7 @@ letter_by-unique count (Some first) (Some second) d a b fit one two = ⊎_elim
     two)
     one
 
+-- a move from a fit node has one letter
 letter-unique : (count : ℕ) (o : Option Node) (d : ℕ) (a b : List ℕ) → ((node : Node) → o ≡ Some node → IsTrue (is_fit count node))
     → IsLetter (successors o) d a → IsLetter (successors o) d b → a ≡ b
 letter-unique count None d a b fit one two = one ∙ sym two

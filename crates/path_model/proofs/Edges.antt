@@ -15,14 +15,17 @@ use Rattle.path_model.specs.Graph.{successors, graph_step, is_fit, are_fit}
 abbrev pub LeadsTo : Node → ℕ → Type 0
 LeadsTo node m = (node.first ≡ Some m) ⊎ (node.second ≡ Some m)
 
+-- a number that is there is listed
 Contains-one : (o : Option ℕ) (m : ℕ) → o ≡ Some m → Contains (option_to_list o) m
 Contains-one o m same = subst (λ (o : Option ℕ). Contains (option_to_list o) m) (sym same) (0, omega arith, refl)
 
+-- and is the only one
 one-Contains : (o : Option ℕ) (m : ℕ) → Contains (option_to_list o) m → o ≡ Some m
 one-Contains None m (k, below, same) = absurd (omega arith)
 one-Contains (Some x) m (zero, below, same) = ap Some same
 one-Contains (Some x) m (suc k, below, same) = absurd (omega arith)
 
+-- a successor that the node has is listed
 listed : (node : Node) (m : ℕ) → LeadsTo node m → Contains (option_to_list node.first ++ option_to_list node.second) m
 listed node m leads = ⊎_elim
     (λ (same : node.first ≡ Some m). Contains-append_left (option_to_list node.first) (option_to_list node.second) m (Contains-one node.first m same))
@@ -34,12 +37,14 @@ pub successor-from_node : (nodes : List Node) (n m : ℕ) (node : Node) → slic
 successor-from_node nodes n m node found leads =
     subst (λ (o : Option Node). IsOkAnd (successors o) (λ s. Contains s m)) (sym found) (listed node m leads)
 
+-- a listed one is a successor that the node has
 leads_of : (node : Node) (m : ℕ) → Contains (option_to_list node.first ++ option_to_list node.second) m → LeadsTo node m
 leads_of node m inside = ⊎_elim
     (λ (first : Contains (option_to_list node.first) m). inl (one-Contains node.first m first))
     (λ (second : Contains (option_to_list node.second) m). inr (one-Contains node.second m second))
     (Contains-append_cases (option_to_list node.first) (option_to_list node.second) m inside)
 
+-- the same, from the answer of the step
 node_of : (o : Option Node) (m : ℕ) → IsOkAnd (successors o) (λ s. Contains s m) → (node : Node) × (o ≡ Some node) × LeadsTo node m
 node_of None m none = absurd none
 node_of (Some node) m inside = (node, refl, leads_of node m inside)
@@ -55,11 +60,13 @@ fit_at [] count n node fit found = absurd (cc)
 fit_at (first ∷ nodes) count zero node fit found = grind (arith, common_steps)
 fit_at (first ∷ nodes) count (suc n) node fit found = fit_at nodes count n node (grind (arith, common_steps)) found
 
+-- a fit first successor is below the count
 first_below : (count m : ℕ) (first second : Option ℕ) → IsTrue (are_fit count first second) → first ≡ Some m → m < count
 first_below count m None second fit same = absurd (cc)
 first_below count m (Some x) None fit same = grind (arith, nat_tests)
 first_below count m (Some x) (Some y) fit same = grind (arith, nat_tests)
 
+-- a fit second successor is below the count
 second_below : (count m : ℕ) (first second : Option ℕ) → IsTrue (are_fit count first second) → second ≡ Some m → m < count
 second_below count m None None fit same = absurd (cc)
 second_below count m (Some x) None fit same = absurd (cc)

@@ -12,6 +12,7 @@ use Rattle.path_model.specs.declared.graph.Node.{Node}
 use Rattle.path_model.specs.Marks.{IsMarked, AreMarked, MarksOne}
 use Rattle.path_model.proofs.Edges.{successor-from_node, node-from_successor}
 
+-- a mark is set, or it isn't
 set_or_not : (b : Bool) → (b ≡ true) ⊎ (b ≡ true → ⊥)
 set_or_not true = inl refl
 set_or_not false = inr (λ (h : false ≡ true). absurd (cc))

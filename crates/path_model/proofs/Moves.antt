@@ -18,6 +18,7 @@ IsPath-suffix step start c [] earlier path = path
 IsPath-suffix step start c (d ∷ []) earlier path = path.1
 IsPath-suffix step start c (e ∷ d ∷ later) earlier path = IsPath-suffix step start c (d ∷ later) earlier path.1
 
+-- the letter of a move by two successors
 letter_by-right : (first second : Option ℕ) (d : ℕ) → (first ≡ Some d) ⊎ (second ≡ Some d)
     → IsLetter {C = ℕ} {F = Unit {0}} (Ok (option_to_list first ++ option_to_list second)) d (letter_by first second d)
 letter_by-right None None d leads = refl
@@ -25,6 +26,7 @@ letter_by-right None (Some second) d leads = refl
 letter_by-right (Some first) None d leads = refl
 letter_by-right (Some first) (Some second) d leads = grind (arith, nat_tests, common_steps)
 
+-- the letter of a move from a node
 letter_at : (o : Option Node) (d : ℕ) (node : Node) → o ≡ Some node → LeadsTo node d → IsLetter (successors o) d (letter_to o d)
 letter_at None d node found leads = absurd (cc)
 letter_at (Some other) d node found leads =

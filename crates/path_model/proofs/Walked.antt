@@ -42,6 +42,7 @@ walked_none nodes steps choices members some begun = record {
   only = λ other followed. path_begins nodes other followed.path;
 }
 
+-- an element is the first of the rest from it on
 slice_get-drop : (n : ℕ) (xs : List ℕ) → slice_get xs n ≡ slice_get (drop n xs) 0
 slice_get-drop zero xs = refl
 slice_get-drop (suc n) [] = refl
@@ -55,6 +56,7 @@ last_of (e ∷ d ∷ later) some =
     let rest = last_of (d ∷ later) (omega arith) in
     (e ∷ rest.0, rest.1, ap (λ xs. e ∷ xs) rest.2)
 
+-- a move with this letter is the one of the code
 move-only : (nodes : List Node) (last d : ℕ) (letter rest : List ℕ) → IsGraph nodes → IsSuccessor (graph_step nodes) last d
     → IsLetter (graph_step nodes last) d letter → next_to (slice_get nodes last) (slice_get (letter ++ rest) 0) ≡ Some (d, length letter)
 move-only nodes last d letter rest graph leads is =
@@ -105,6 +107,7 @@ next-only nodes steps choices members last used other graph walked more followed
     walked.takes walked.within in
     (next.0, next.1, move.0, next.2 ∙ ap (λ xs. next.0 ++ next.1 ∷ xs) (sym walked.ends), move.1)
 
+-- what a move of the code is
 move-right : (o : Option Node) (rest : List ℕ) (to k : ℕ) → next_to o (slice_get rest 0) ≡ Some (to, k)
     → (node : Node) × (o ≡ Some node) × LeadsTo node to × IsLetter (successors o) to (take k rest) × (k ≤ length rest)
 move-right None rest to k is = absurd (cc)

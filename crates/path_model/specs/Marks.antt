@@ -8,7 +8,7 @@ use Rattle.path_model.specs.Graph.{graph_step}
 abbrev pub IsMarked : List Bool → ℕ → Type 0
 IsMarked marks m = slice_index_or marks m false ≡ true
 
--- a marked number is a greater successor of one of the first count nodes, and each such number with a mark has it set
+-- a marked number is a greater successor of some node, and each greater successor of the first count nodes is marked
 pub record AreMarked (nodes : List Node) (count : ℕ) (marks : List Bool) : Type 0 where
   pub sound : (m : ℕ) → IsMarked marks m → (n : ℕ) × (n < m) × IsSuccessor (graph_step nodes) n m
   pub complete : (n m : ℕ) → n < count → n < m → m < length marks → IsSuccessor (graph_step nodes) n m → IsMarked marks m

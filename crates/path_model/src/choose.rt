@@ -26,6 +26,7 @@ pub fn follow(
     if steps == 0 {
         return Ok(None);
     }
+    // A usize has 64 bits here, so no number of steps is cut.
     let mut path = Vec::with_capacity(alloc, steps as usize)?;
     path.push(0)?;
     walk(graph.nodes(), choices, steps as usize, path)
