@@ -122,3 +122,45 @@ fn some_choices_and_steps_name_no_path(rt: HostRuntime) -> Result<(), Fail> {
     assert!(rt; follow(alloc, &graph, b"t", u64::MAX).is_err());
     Ok(())
 }
+
+// Two loops that meet: words at eight addresses, with branches at the second and a long way round by each.
+fn two_ways(alloc: Global) -> Result<Vec<Node>, AllocError> {
+    let mut nodes = Vec::new(alloc);
+    for (at, first, second) in [
+        (0x10000, Some(1), None),
+        (0x10008, Some(2), Some(3)),
+        (0x1000c, Some(5), None),
+        (0x10080, Some(4), None),
+        (0x10010, Some(6), None),
+        (0x10100, Some(4), None),
+        (0x10084, Some(7), None),
+        (0x10104, Some(8), None),
+        (0x10004, None, None),
+    ] {
+        nodes.push(node(at, first, second))?;
+    }
+    Ok(nodes)
+}
+
+#[test]
+fn the_choices_of_a_followed_path_are_those_that_it_was_followed_by(
+    rt: HostRuntime,
+) -> Result<(), Fail> {
+    let alloc = rt.alloc();
+    let graph = graph_of(alloc, &two_ways(alloc)?)?.expect(&rt, "a graph");
+    for (letters, steps) in [(b"n", 6), (b"t", 5), (b"n", 7), (b"t", 7)] {
+        let path = follow(alloc, &graph, letters, steps)?.expect(&rt, "a path");
+        assert_eq!(rt;
+            choices_of(alloc, &graph, &path)?.as_slice(),
+            letters.as_slice()
+        );
+    }
+    let hit = follow(alloc, &graph, b"t", 5)?.expect(&rt, "a path");
+    assert_eq!(rt; hit.as_slice(), [0, 1, 3, 4, 6].as_slice());
+    let miss = follow(alloc, &graph, b"n", 6)?.expect(&rt, "a path");
+    assert_eq!(rt; miss.as_slice(), [0, 1, 2, 5, 4, 6].as_slice());
+    let geometry = Geometry::new(8, 16, 3).expect(&rt, "in range");
+    assert!(rt; ends_in_hit(&graph, &geometry, &hit));
+    assert!(rt; !ends_in_hit(&graph, &geometry, &miss));
+    Ok(())
+}
