@@ -1,0 +1,2 @@
+pub mod SetList
+pub mod Rising
