@@ -1,0 +1,142 @@
+//! A finite family of finite sets of numbers of 16 bits, as a list of sets in order.
+//!
+//! `PlainFamily` is seen as the list of its sets in the order of `SetList::compare`, and so without repeats. It stands
+//! on `set_list`. Its contract gives the layer above each operation as a fact on which sets the result has.
+#![tactic(auto)]
+
+ghost use Rattle.std.specs.Prelude.{◌≡◌, ℕ, ◌<◌, ◌↔◌, ◌⊎◌, List, [], ◌∷◌, length, IfOk, OnOk, IsTrue};
+ghost use Rattle.std.specs.List.{Contains, AllPairs};
+ghost use Rattle.std.specs.List.Sorted.{IsStrictlyIncreasing};
+ghost use Rattle.plain_family.specs.Family.{IsBefore, AreRising, IsFamily, IsWith, IsMinimal, IsMaximal, IsPlaceOf};
+
+use set_list::SetList;
+use std::alloc::{AllocError, Global};
+use std::marker::Model;
+
+/// A finite family of finite sets of numbers of 16 bits.
+#[derive(Drop)]
+pub struct PlainFamily {
+    // Each set once, in the order of `SetList::compare`.
+    sets: Vec<SetList>,
+}
+
+impl Model for PlainFamily {
+    ghost use Rattle.std.specs.Prelude.{ℕ, List};
+    ghost use Rattle.plain_family.specs.Family.{IsFamily};
+
+    ghost Value = { List (List ℕ) };
+
+    ghost view = { λ family. family.sets.items };
+
+    ghost invariant = { λ family. IsFamily family.sets.items };
+}
+
+impl PlainFamily {
+    /// The family without sets, which takes no memory until it grows.
+    pub fn empty(alloc: Global) -> Self
+        ensures sets { result ≡ [] }
+        ensures order { IsFamily result }
+    {
+        PlainFamily {
+            sets: Vec::new(alloc),
+        }
+    }
+
+    /// The family of this one set. An error is want of memory.
+    pub fn of(alloc: Global, set: &SetList) -> Result<Self, AllocError>
+        ensures sets { IfOk result (λ family. family ≡ set.now ∷ []) }
+        ensures order { IfOk result (λ family. IsFamily family) }
+    {
+        let copy = set.try_clone()?;
+        let mut sets = Vec::new(alloc);
+        sets.push(copy)?;
+        Ok(PlainFamily { sets })
+    }
+
+    /// Whether `set` is one of the sets.
+    pub fn member(&self, set: &SetList) -> bool
+        ensures { IsTrue result ↔ Contains self.now set.now }
+    {
+        find(self.sets(), set).is_ok()
+    }
+
+    /// The sets, in the order of `SetList::compare`.
+    pub fn sets(&self) -> &[SetList]
+        ensures value { result.now ≡ self.now }
+        ensures order { IsFamily result.now }
+    {
+        &self.sets
+    }
+
+    /// The sets of both families. An error is want of memory.
+    pub fn union(&self, other: &PlainFamily) -> Result<Self, AllocError>
+        ensures sets { IfOk result (λ family. (s : List ℕ) → Contains family s ↔ (Contains self.now s ⊎ Contains other.now s)) }
+        ensures order { IfOk result (λ family. IsFamily family) }
+    {
+        let mut family = self.without_sets();
+        family.add_all(self.sets())?;
+        family.add_all(other.sets())?;
+        Ok(family)
+    }
+
+    /// The sets with fewer than `k` numbers. An error is want of memory.
+    pub fn below(&self, k: u32) -> Result<Self, AllocError>
+        ensures sets { IfOk result (λ family. (s : List ℕ) → Contains family s ↔ (Contains self.now s × (length s < k))) }
+        ensures order { IfOk result (λ family. IsFamily family) }
+    {
+        let mut family = self.without_sets();
+        let sets = self.sets();
+        for set in sets {
+            if set.len() < k as usize {
+                family.add(set.try_clone()?)?;
+            }
+        }
+        Ok(family)
+    }
+
+    // A family without sets, in the same memory.
+    fn without_sets(&self) -> Self
+        ensures sets { result ≡ [] }
+        ensures order { IsFamily result }
+    {
+        PlainFamily::empty(*self.sets.allocator())
+    }
+
+    // Puts `set` in its place, unless it is there.
+    fn add(&mut self, set: SetList) -> Result<(), AllocError>
+        requires { IsStrictlyIncreasing set }
+        ensures sets { OnOk result ((s : List ℕ) → Contains self.new s ↔ (Contains self.old s ⊎ (s ≡ set))) }
+        ensures order { IsFamily self.new }
+    {
+        let place = match find(&self.sets, &set) {
+            Ok(_) => return Ok(()),
+            Err(place) => place,
+        };
+        self.sets.insert(place, set)?;
+        Ok(())
+    }
+
+    // Puts each of `sets` in its place.
+    fn add_all(&mut self, sets: &[SetList]) -> Result<(), AllocError>
+        requires order { IsFamily self.old }
+        requires rising { AreRising sets.now }
+        ensures sets { OnOk result ((s : List ℕ) → Contains self.new s ↔ (Contains self.old s ⊎ Contains sets.now s)) }
+        ensures order { IsFamily self.new }
+    {
+        for set in sets {
+            self.add(set.try_clone()?)?;
+        }
+        Ok(())
+    }
+}
+
+// Where `set` is among `sets`, or between which of them it belongs.
+fn find(sets: &[SetList], set: &SetList) -> Result<usize, usize>
+    requires { AllPairs IsBefore sets.now }
+    ensures { IsPlaceOf sets.now set.now result }
+{
+    sets.binary_search_by(|other| other.compare(set))
+}
+
+#[cfg(test)]
+mod tests;
