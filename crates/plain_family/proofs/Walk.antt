@@ -1,6 +1,8 @@
 -- A walk along sets that adds some of them to a family.
 use Rattle.std.proofs.Common.{◌≡◌, ℕ, ◌+◌, ◌<◌, ◌≤◌, ◌↔◌, ◌⊎◌, inl, inr, List, [], ◌∷◌, ◌++◌, length, take, take_all, get_or, Contains, refl, sym, ap, subst, ◌∙◌, arith}
 use Rattle.std.proofs.lemmas.List.{take_more}
+use Rattle.plain_family.specs.Family.{IsWith}
+use Rattle.plain_family.proofs.Smaller.{IsWith-unique}
 use Rattle.std.proofs.lemmas.List.Elements.{Contains-append_left, Contains-push, Contains-push_cases}
 
 -- what the first sets contain with one set more
@@ -92,3 +94,48 @@ Contains-both none first second mid new nothing begun ended s = (
     | inr second_there ↦ (ended s).1 (inr second_there)
   ],
 )
+
+-- the family has the first i sets, with x added to each
+abbrev pub Grows : ℕ → List (List ℕ) → ℕ → List (List ℕ) → Type 0
+Grows x sets i new = (s : List ℕ) → Contains new s ↔ ((t : List ℕ) × Contains (take i sets) t × IsWith x t s)
+
+pub Grows-none : (x : ℕ) (sets : List (List ℕ)) → Grows x sets 0 []
+Grows-none x sets s = (λ there. absurd (omega (arith, there.1)), λ grown. absurd (omega (arith, grown.1.1)))
+
+pub Grows-more : (x : ℕ) (sets : List (List ℕ)) (i : ℕ) (now new : List (List ℕ)) (set grown : List ℕ) → i < length sets → set ≡ get_or sets i set
+    → Grows x sets i now → IsWith x set grown → ((s : List ℕ) → Contains new s ↔ (Contains now s ⊎ (s ≡ grown))) → Grows x sets (i + 1) new
+Grows-more x sets i now new set grown inside same before added step s = (
+  λ there. elim ((step s).0 there) [
+    | inl earlier ↦
+        let from = (before s).0 earlier in
+        (from.0, (Contains-more sets i set from.0 inside same).1 (inl from.1), from.2)
+    | inr last ↦ (set, (Contains-more sets i set set inside same).1 (inr refl), subst (IsWith x set) (sym last) added)
+  ],
+  λ from. elim ((Contains-more sets i set from.0 inside same).0 from.1) [
+    | inl earlier ↦ (step s).1 (inl ((before s).1 (from.0, earlier, from.2)))
+    | inr last ↦ (step s).1 (inr (IsWith-unique x set s grown (subst (λ t. IsWith x t s) last from.2) added))
+  ],
+)
+
+pub Grows-all : (x : ℕ) (sets : List (List ℕ)) (i : ℕ) (new : List (List ℕ)) → length sets ≤ i → Grows x sets i new
+    → (s : List ℕ) → Contains new s ↔ ((t : List ℕ) × Contains sets t × IsWith x t s)
+Grows-all x sets i new all before = subst (λ xs. (s : List ℕ) → Contains new s ↔ ((t : List ℕ) × Contains xs t × IsWith x t s)) (take_all i sets all) before
+
+-- none of the first i sets has P
+abbrev pub NoneHas : (List ℕ → Type 0) → List (List ℕ) → ℕ → Type 0
+NoneHas P sets i = (t : List ℕ) → Contains (take i sets) t → P t → ⊥
+
+pub NoneHas-none : (P : List ℕ → Type 0) (sets : List (List ℕ)) → NoneHas P sets 0
+NoneHas-none P sets t there has = absurd (omega (arith, there.1))
+
+pub NoneHas-more : (P : List ℕ → Type 0) (sets : List (List ℕ)) (i : ℕ) (set : List ℕ) → i < length sets → set ≡ get_or sets i set
+    → NoneHas P sets i → (P set → ⊥) → NoneHas P sets (i + 1)
+NoneHas-more P sets i set inside same before lacks t there has =
+    elim ((Contains-more sets i set t inside same).0 there) [
+      | inl earlier ↦ before t earlier has
+      | inr last ↦ lacks (subst P last has)
+    ]
+
+pub NoneHas-all : (P : List ℕ → Type 0) (sets : List (List ℕ)) (i : ℕ) → length sets ≤ i → NoneHas P sets i
+    → (t : List ℕ) → Contains sets t → P t → ⊥
+NoneHas-all P sets i all before = subst (λ xs. (t : List ℕ) → Contains xs t → P t → ⊥) (take_all i sets all) before

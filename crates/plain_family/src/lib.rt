@@ -7,6 +7,7 @@
 ghost use Rattle.std.specs.Prelude.{◌≡◌, ℕ, ◌<◌, ◌↔◌, ◌⊎◌, List, [], ◌∷◌, length, IfOk, OnOk, IsTrue};
 ghost use Rattle.std.specs.List.{Contains, AllPairs};
 ghost use Rattle.std.specs.List.Sorted.{IsStrictlyIncreasing};
+ghost use Rattle.set_list.specs.SetList.{IsSubset};
 ghost use Rattle.plain_family.specs.Family.{IsBefore, AreRising, IsFamily, IsWith, IsMinimal, IsMaximal, IsPlaceOf};
 
 use set_list::SetList;
@@ -94,6 +95,51 @@ impl PlainFamily {
         Ok(family)
     }
 
+    /// Each set with `x` added to it, which may make sets equal. An error is want of memory.
+    pub fn insert_each(&self, x: u16) -> Result<Self, AllocError>
+        ensures sets { IfOk result (λ family. (s : List ℕ) → Contains family s ↔ ((t : List ℕ) × Contains self.now t × IsWith x t s)) }
+        ensures order { IfOk result (λ family. IsFamily family) }
+    {
+        let mut family = self.without_sets();
+        let sets = self.sets();
+        for set in sets {
+            family.add(set.insert(x)?)?;
+        }
+        Ok(family)
+    }
+
+    /// The sets in which no other set of the family is included. An error is want of memory. It takes as many tests for
+    /// a subset as there are pairs of sets.
+    pub fn minimal(&self) -> Result<Self, AllocError>
+        ensures sets { IfOk result (λ family. (s : List ℕ) → Contains family s ↔ (Contains self.now s × IsMinimal self.now s)) }
+        ensures order { IfOk result (λ family. IsFamily family) }
+    {
+        let mut family = self.without_sets();
+        let sets = self.sets();
+        for set in sets {
+            if is_minimal(sets, set) {
+                family.add(set.try_clone()?)?;
+            }
+        }
+        Ok(family)
+    }
+
+    /// The sets that no other set of the family includes. An error is want of memory. It takes as many tests for a
+    /// subset as there are pairs of sets.
+    pub fn maximal(&self) -> Result<Self, AllocError>
+        ensures sets { IfOk result (λ family. (s : List ℕ) → Contains family s ↔ (Contains self.now s × IsMaximal self.now s)) }
+        ensures order { IfOk result (λ family. IsFamily family) }
+    {
+        let mut family = self.without_sets();
+        let sets = self.sets();
+        for set in sets {
+            if is_maximal(sets, set) {
+                family.add(set.try_clone()?)?;
+            }
+        }
+        Ok(family)
+    }
+
     // A family without sets, in the same memory.
     fn without_sets(&self) -> Self
         ensures sets { result ≡ [] }
@@ -136,6 +182,41 @@ fn find(sets: &[SetList], set: &SetList) -> Result<usize, usize>
     ensures { IsPlaceOf sets.now set.now result }
 {
     sets.binary_search_by(|other| other.compare(set))
+}
+
+// Whether no other of `sets` is included in `set`.
+fn is_minimal(sets: &[SetList], set: &SetList) -> bool
+    requires sets { AreRising sets.now }
+    requires set { IsStrictlyIncreasing set.now }
+    ensures { IsTrue result ↔ IsMinimal sets.now set.now }
+{
+    for other in sets {
+        if is_smaller_subset(other, set) {
+            return false;
+        }
+    }
+    true
+}
+
+// Whether no other of `sets` includes `set`.
+fn is_maximal(sets: &[SetList], set: &SetList) -> bool
+    requires sets { AreRising sets.now }
+    requires set { IsStrictlyIncreasing set.now }
+    ensures { IsTrue result ↔ IsMaximal sets.now set.now }
+{
+    for other in sets {
+        if is_smaller_subset(set, other) {
+            return false;
+        }
+    }
+    true
+}
+
+// Whether `large` has the numbers of `small`, and more; the lengths are compared first, as most pairs end there.
+fn is_smaller_subset(small: &SetList, large: &SetList) -> bool
+    ensures { IsTrue result ↔ ((length small.now < length large.now) × IsSubset small.now large.now) }
+{
+    small.len() < large.len() && small.is_subset(large)
 }
 
 #[cfg(test)]

@@ -59,3 +59,19 @@ fn sets_of_fewer_numbers_are_below(rt: HostRuntime) -> Result<(), AllocError> {
     assert!(rt; has_sets(&family.below(1)?, &[]));
     Ok(())
 }
+
+#[test]
+fn sets_that_a_number_makes_equal_merge(rt: HostRuntime) -> Result<(), AllocError> {
+    let family = sample(rt.alloc())?;
+    assert!(rt; has_sets(&family.insert_each(2)?, &[&[1, 2], &[2, 3]]));
+    assert!(rt; has_sets(&family.insert_each(0)?, &[&[0, 1], &[0, 1, 2], &[0, 2, 3]]));
+    Ok(())
+}
+
+#[test]
+fn minimal_and_maximal_sets_are_told_apart(rt: HostRuntime) -> Result<(), AllocError> {
+    let family = sample(rt.alloc())?;
+    assert!(rt; has_sets(&family.minimal()?, &[&[1], &[2, 3]]));
+    assert!(rt; has_sets(&family.maximal()?, &[&[1, 2], &[2, 3]]));
+    Ok(())
+}

@@ -1,0 +1,9 @@
+use Rattle.plain_family.specs.Family.{IsFamily, IsMaximal}
+use Rattle.plain_family.proofs.Walk.{Keeps}
+use Rattle.plain_family.proofs.PlainFamily.maximal.Given as goal
+
+abbrev pub invariant-loop-set : goal.invariant-loop-set
+invariant-loop-set l = record {
+  sets : Keeps (IsMaximal l.sets) l.sets l.set-index l.family;
+  order : IsFamily l.family;
+}
