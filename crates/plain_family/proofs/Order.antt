@@ -1,5 +1,5 @@
 -- The order of the sets of a family, and the place of a set in it.
-use Rattle.std.proofs.Common.{◌≡◌, ℕ, ◌+◌, ◌↔◌, ◌⊎◌, inl, inr, Ok, Err, Result, is_ok, true, List, [], ◌∷◌, length, get_or, insert, Contains, AllPairs, refl, sym, ap, subst, ◌∙◌, arith}
+use Rattle.std.proofs.Common.{◌≡◌, ℕ, ◌+◌, ◌↔◌, inl, inr, Ok, Err, Result, is_ok, true, List, length, get_or, insert, Contains, AllPairs, refl, sym, ap, subst, ◌∙◌, arith}
 use Rattle.std.proofs.lemmas.Bool.{cases_lt}
 use mathlib.Core.Bool.{true≢false}
 use Rattle.std.proofs.lemmas.Cmp.{nat_list_cmp_total, tied_itself}
@@ -9,12 +9,14 @@ use Rattle.std.specs.Cmp.Lexicographic.{slice_cmp}
 use Rattle.std.specs.List.Sorted.{IsBinarySearchResult, IsSearchInRange, IsSortedBy, IsStrictlyIncreasing}
 use Rattle.std.specs.Ordering.{nat_cmp, is_lt, ordering_reverse}
 use Rattle.std.specs.declared.cmp.Ordering.TheVariants.{Greater}
-use Rattle.set_list.specs.Rising.{AllPairs-insert, Contains-insert, Contains-front}
+use Rattle.set_list.specs.Rising.{AllPairs-insert, Contains-insert}
 use Rattle.plain_family.specs.Family.{IsBefore, IsFamily, IsPlaceOf}
 
+-- a set behind another, the other way round
 before_back : (s t : List ℕ) → slice_cmp nat_cmp s t ≡ Greater → IsBefore t s
 before_back s t behind = nat_list_cmp_total.antisymm t s ∙ ap ordering_reverse behind
 
+-- the order, as the search asks for it
 sorted_from_ordered : (sets : List (List ℕ)) → AllPairs IsBefore sets → IsSortedBy (λ a b. is_lt (slice_cmp nat_cmp a b)) sets
 sorted_from_ordered sets ordered k d low inside =
     ap is_lt (nat_list_cmp_total.antisymm (get_or sets (k + 1) d) (get_or sets k d) ∙ ap ordering_reverse (ordered k (k + 1) d (omega arith) inside))
@@ -27,6 +29,7 @@ place_from_search sets s (Err i) ordered within found =
     let parted = found (searchable_from_sorted nat_list_cmp_total (λ t. t) sets s (sorted_from_ordered sets ordered)) in
     (within, λ k d front. parted.0 k d (omega arith) front, λ k d back inside. before_back (get_or sets k d) s (parted.1 k d back inside))
 
+-- no set comes before itself
 never_before_itself : (s : List ℕ) → IsBefore s s → ⊥
 never_before_itself s less = let tied = tied_itself nat_list_cmp_total s in cc
 
@@ -42,21 +45,6 @@ pub is_ok-place : (sets : List (List ℕ)) (s : List ℕ) (r : Result ℕ ℕ) �
 is_ok-place sets s (Ok i) place = (λ _. place, λ _. refl)
 is_ok-place sets s (Err i) place = (λ same. absurd (true≢false (sym same)), λ there. absurd (absent sets s i place there))
 
-pub IsFamily-nil : IsFamily []
-IsFamily-nil = record {
-  ordered = λ i j d before inside. absurd (omega (arith, inside));
-  rising = λ s there. absurd (omega (arith, there.1));
-}
-
-pub IsFamily-one : (s : List ℕ) → IsStrictlyIncreasing s → IsFamily (s ∷ [])
-IsFamily-one s up = record {
-  ordered = λ i j d before inside. absurd (omega (arith, inside));
-  rising = λ t there. elim ((Contains-front s [] t).0 there) [
-    | inl none ↦ absurd (omega (arith, none.1))
-    | inr same ↦ subst IsStrictlyIncreasing (sym same) up
-  ];
-}
-
 -- a set put where it belongs
 pub IsFamily-insert : (sets : List (List ℕ)) (i : ℕ) (s : List ℕ) → IsFamily sets → IsStrictlyIncreasing s → IsPlaceOf sets s (Err i) → IsFamily (insert sets i s)
 IsFamily-insert sets i s family up place = record {
@@ -66,10 +54,3 @@ IsFamily-insert sets i s family up place = record {
     | inr same ↦ subst IsStrictlyIncreasing (sym same) up
   ];
 }
-
--- a set that is there adds nothing
-pub Contains-again : (sets : List (List ℕ)) (s t : List ℕ) → Contains sets s → Contains sets t ↔ (Contains sets t ⊎ (t ≡ s))
-Contains-again sets s t there = (
-  λ before. inl before,
-  λ either. elim either [ inl before ↦ before | inr same ↦ subst (Contains sets) (sym same) there ],
-)

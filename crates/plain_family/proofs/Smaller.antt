@@ -8,6 +8,7 @@ use Rattle.set_list.specs.SetList.{IsSubset}
 use Rattle.set_list.specs.Rising.{Contains-front}
 use Rattle.plain_family.specs.Family.{AreRising, IsWith, IsMinimal, IsMaximal}
 
+-- what stands behind the first number rises
 rising-tail : (x : ℕ) (xs : List ℕ) → IsStrictlyIncreasing (x ∷ xs) → IsStrictlyIncreasing xs
 rising-tail x xs up k inside = AllPairs-from_increasing (x ∷ xs) up (suc k) (suc (k + 1)) 0 (omega arith) (omega (arith, inside))
 
@@ -76,6 +77,7 @@ IsWith-unique x set s t first second =
 abbrev pub IsSmaller : List ℕ → List ℕ → Type 0
 IsSmaller s t = (length s < length t) × IsSubset s t
 
+-- where no set of the family is smaller
 pub minimal_from_none : (sets : List (List ℕ)) (s : List ℕ) → AreRising sets → IsStrictlyIncreasing s
     → ((t : List ℕ) → Contains sets t → IsSmaller t s → ⊥) → IsMinimal sets s
 minimal_from_none sets s rising up none t there subset = elim (smaller_or_same t s (rising t there) up subset) [
@@ -83,6 +85,7 @@ minimal_from_none sets s rising up none t there subset = elim (smaller_or_same t
   | inr same ↦ same
 ]
 
+-- where the set is smaller than none of the family
 pub maximal_from_none : (sets : List (List ℕ)) (s : List ℕ) → AreRising sets → IsStrictlyIncreasing s
     → ((t : List ℕ) → Contains sets t → IsSmaller s t → ⊥) → IsMaximal sets s
 maximal_from_none sets s rising up none t there subset = elim (smaller_or_same s t up (rising t there) subset) [
@@ -90,11 +93,13 @@ maximal_from_none sets s rising up none t there subset = elim (smaller_or_same s
   | inr same ↦ sym same
 ]
 
+-- where a set of the family is smaller
 pub not_minimal : (sets : List (List ℕ)) (s t : List ℕ) → Contains sets t → IsSmaller t s → IsMinimal sets s → ⊥
 not_minimal sets s t there smaller minimal =
     let long = ap length (minimal t there smaller.1) in
     omega (arith, long, smaller.0)
 
+-- where the set is smaller than one of the family
 pub not_maximal : (sets : List (List ℕ)) (s t : List ℕ) → Contains sets t → IsSmaller s t → IsMaximal sets s → ⊥
 not_maximal sets s t there smaller maximal =
     let long = ap length (maximal t there smaller.1) in

@@ -21,6 +21,7 @@ Contains-more sets i set s inside same =
 abbrev pub Adds : List (List ℕ) → List (List ℕ) → ℕ → List (List ℕ) → Type 0
 Adds old sets i new = (s : List ℕ) → Contains new s ↔ (Contains old s ⊎ Contains (take i sets) s)
 
+-- one set more
 pub Adds-more : (old sets : List (List ℕ)) (i : ℕ) (now new : List (List ℕ)) (set : List ℕ) → i < length sets → set ≡ get_or sets i set
     → Adds old sets i now → ((s : List ℕ) → Contains new s ↔ (Contains now s ⊎ (s ≡ set))) → Adds old sets (i + 1) new
 Adds-more old sets i now new set inside same before step s =
@@ -39,6 +40,7 @@ Adds-more old sets i now new set inside same before step s =
 abbrev pub Keeps : (List ℕ → Type 0) → List (List ℕ) → ℕ → List (List ℕ) → Type 0
 Keeps P sets i new = (s : List ℕ) → Contains new s ↔ (Contains (take i sets) s × P s)
 
+-- one set more, which has P
 pub Keeps-more : (P : List ℕ → Type 0) (sets : List (List ℕ)) (i : ℕ) (now new : List (List ℕ)) (set : List ℕ) → i < length sets → set ≡ get_or sets i set
     → Keeps P sets i now → P set → ((s : List ℕ) → Contains new s ↔ (Contains now s ⊎ (s ≡ set))) → Keeps P sets (i + 1) new
 Keeps-more P sets i now new set inside same before has step s =
@@ -53,6 +55,7 @@ Keeps-more P sets i now new set inside same before has step s =
       ],
     )
 
+-- one set more, which lacks P
 pub Keeps-same : (P : List ℕ → Type 0) (sets : List (List ℕ)) (i : ℕ) (now : List (List ℕ)) (set : List ℕ) → i < length sets → set ≡ get_or sets i set
     → Keeps P sets i now → (P set → ⊥) → Keeps P sets (i + 1) now
 Keeps-same P sets i now set inside same before lacks s =
@@ -69,13 +72,10 @@ pub Adds-all : (old sets : List (List ℕ)) (i : ℕ) (new : List (List ℕ)) �
     → (s : List ℕ) → Contains new s ↔ (Contains old s ⊎ Contains sets s)
 Adds-all old sets i new all before = subst (λ xs. (s : List ℕ) → Contains new s ↔ (Contains old s ⊎ Contains xs s)) (take_all i sets all) before
 
+-- after the last set
 pub Keeps-all : (P : List ℕ → Type 0) (sets : List (List ℕ)) (i : ℕ) (new : List (List ℕ)) → length sets ≤ i → Keeps P sets i new
     → (s : List ℕ) → Contains new s ↔ (Contains sets s × P s)
 Keeps-all P sets i new all before = subst (λ xs. (s : List ℕ) → Contains new s ↔ (Contains xs s × P s)) (take_all i sets all) before
-
--- before the first set
-pub Keeps-none : (P : List ℕ → Type 0) (sets : List (List ℕ)) → Keeps P sets 0 []
-Keeps-none P sets s = (λ there. absurd (omega (arith, there.1)), λ both. absurd (omega (arith, both.0.1)))
 
 -- what has the sets of one family, and then those of another
 pub Contains-both : (none first second mid new : List (List ℕ)) → none ≡ []
@@ -99,9 +99,7 @@ Contains-both none first second mid new nothing begun ended s = (
 abbrev pub Grows : ℕ → List (List ℕ) → ℕ → List (List ℕ) → Type 0
 Grows x sets i new = (s : List ℕ) → Contains new s ↔ ((t : List ℕ) × Contains (take i sets) t × IsWith x t s)
 
-pub Grows-none : (x : ℕ) (sets : List (List ℕ)) → Grows x sets 0 []
-Grows-none x sets s = (λ there. absurd (omega (arith, there.1)), λ grown. absurd (omega (arith, grown.1.1)))
-
+-- one set more
 pub Grows-more : (x : ℕ) (sets : List (List ℕ)) (i : ℕ) (now new : List (List ℕ)) (set grown : List ℕ) → i < length sets → set ≡ get_or sets i set
     → Grows x sets i now → IsWith x set grown → ((s : List ℕ) → Contains new s ↔ (Contains now s ⊎ (s ≡ grown))) → Grows x sets (i + 1) new
 Grows-more x sets i now new set grown inside same before added step s = (
@@ -117,6 +115,7 @@ Grows-more x sets i now new set grown inside same before added step s = (
   ],
 )
 
+-- after the last set
 pub Grows-all : (x : ℕ) (sets : List (List ℕ)) (i : ℕ) (new : List (List ℕ)) → length sets ≤ i → Grows x sets i new
     → (s : List ℕ) → Contains new s ↔ ((t : List ℕ) × Contains sets t × IsWith x t s)
 Grows-all x sets i new all before = subst (λ xs. (s : List ℕ) → Contains new s ↔ ((t : List ℕ) × Contains xs t × IsWith x t s)) (take_all i sets all) before
@@ -125,9 +124,7 @@ Grows-all x sets i new all before = subst (λ xs. (s : List ℕ) → Contains ne
 abbrev pub NoneHas : (List ℕ → Type 0) → List (List ℕ) → ℕ → Type 0
 NoneHas P sets i = (t : List ℕ) → Contains (take i sets) t → P t → ⊥
 
-pub NoneHas-none : (P : List ℕ → Type 0) (sets : List (List ℕ)) → NoneHas P sets 0
-NoneHas-none P sets t there has = absurd (omega (arith, there.1))
-
+-- one set more, which lacks P
 pub NoneHas-more : (P : List ℕ → Type 0) (sets : List (List ℕ)) (i : ℕ) (set : List ℕ) → i < length sets → set ≡ get_or sets i set
     → NoneHas P sets i → (P set → ⊥) → NoneHas P sets (i + 1)
 NoneHas-more P sets i set inside same before lacks t there has =
@@ -136,6 +133,7 @@ NoneHas-more P sets i set inside same before lacks t there has =
       | inr last ↦ lacks (subst P last has)
     ]
 
+-- after the last set
 pub NoneHas-all : (P : List ℕ → Type 0) (sets : List (List ℕ)) (i : ℕ) → length sets ≤ i → NoneHas P sets i
     → (t : List ℕ) → Contains sets t → P t → ⊥
 NoneHas-all P sets i all before = subst (λ xs. (t : List ℕ) → Contains xs t → P t → ⊥) (take_all i sets all) before
