@@ -8,6 +8,7 @@ use Rattle.std.specs.List.Sorted.{IsStrictlyIncreasing, IsBinarySearchResult}
 use Rattle.std.specs.Ordering.{nat_cmp}
 use Rattle.set_list.specs.Rising.{AllPairs-insert, rising_from_AllPairs}
 
+-- no number is above a later one
 never_falls : (xs : List ℕ) → IsStrictlyIncreasing xs → (i j : ℕ) → i ≤ j → j < length xs → get_or xs i 0 ≤ get_or xs j 0
 never_falls xs up i j before inside = elim (cases_eq i j) [
   | inl same ↦ let equal = ap (λ n. get_or xs n 0) same in omega arith

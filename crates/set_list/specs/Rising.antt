@@ -7,6 +7,7 @@ use Rattle.std.proofs.lemmas.List.Sorted.{IsPermutation-insert, IsPermutation-sy
 use Rattle.std.specs.List.{Contains, AllPairs, insert}
 use Rattle.std.specs.List.Sorted.{IsStrictlyIncreasing}
 
+-- a relation at equal elements
 related : {X : Type 0} (R : X → X → Type 0) (a b c d : X) → a ≡ c → b ≡ d → R c d → R a b
 related R a b c d p q r = subst (λ v. R v b) (sym p) (subst (λ v. R c v) (sym q) r)
 
