@@ -1,5 +1,5 @@
 -- The addresses at which some segments have words, and the least of them.
-use Rattle.std.specs.Prelude.{ℕ, ◌%◌, min, Bool, ◌&&◌, ◌==◌, List, Option, Some, None}
+use Rattle.std.specs.Prelude.{ℕ, ◌%◌, Bool, ◌&&◌, ◌==◌, List, Option}
 use Rattle.std.specs.List.{list_any}
 use Rattle.elf_spec.specs.declared.segment.Segment.{Segment}
 use Rattle.elf_spec.specs.Word.{has_word, IsNext}
@@ -17,9 +17,3 @@ IsNextIn segment from next = IsNext (has_word_at segment) from next
 
 abbrev pub IsNextAmong : List Segment → ℕ → Option ℕ → Type 0
 IsNextAmong segments from next = IsNext (some_has_word_at segments) from next
-
--- the lesser of two numbers that may be there
-abbrev pub lesser_of : Option ℕ → Option ℕ → Option ℕ
-lesser_of None b = b
-lesser_of (Some a) None = Some a
-lesser_of (Some a) (Some b) = Some (min a b)

@@ -1,8 +1,10 @@
-ghost use Rattle.std.specs.Prelude.{◌≡◌, ◌+◌, ◌^◌, ◌≤◌, length, find, IfSome, Contains, IsTrue};
-ghost use Rattle.elf_spec.specs.Number.{u32_at};
-ghost use Rattle.elf_spec.specs.Word.{word_at, has_word, IsNextText};
-ghost use Rattle.elf_image.specs.Among.{IsNextIn, lesser_of};
+ghost use Rattle.std.specs.Prelude.{◌≡◌, ℕ, ◌+◌, ◌^◌, ◌<◌, ◌≤◌, length, find, IfSome, Contains, IsTrue, AllPairs};
+ghost use Rattle.std.specs.List.{AllWithin};
+ghost use Rattle.elf_spec.specs.Word.{word_at, has_word, IsText, IsNextText};
+ghost use Rattle.elf_image.specs.Among.{IsNextIn};
+ghost use Rattle.elf_image.specs.Fits.{EndsBefore, Fits};
 
+use crate::number::u32_at;
 use elf_spec::Segment;
 use std::marker::Model;
 
@@ -33,9 +35,12 @@ impl Image {
         self.entry
     }
 
-    /// The executable segments, in rising order of address.
+    /// The executable segments, in rising order of address: at most 64 of them, none empty, each of which ends at or before
+    /// the next begins. They lie in the file, and their words end at or below 2^32.
     pub fn segments(&self) -> &[Segment]
-        ensures { result.now ≡ self.now.segments }
+        ensures same { result.now ≡ self.now.segments }
+        ensures fit { Fits self.now.file self.now.segments }
+        ensures text { (p : ℕ) → IsText self.now p → p + 4 ≤ 2 ^ 32 }
     {
         &self.segments
     }
@@ -52,7 +57,7 @@ impl Image {
         match segment_of(&self.segments, p) {
             Some(segment) => {
                 let start = (segment.offset + (p - segment.at)) as usize;
-                Some(number_at(&self.file, start))
+                Some(u32_at(&self.file, start))
             }
             None => None,
         }
@@ -62,22 +67,13 @@ impl Image {
     pub fn word_from(&self, p: u32) -> Option<u32>
         ensures { IsNextText self.now p result }
     {
-        let mut least = None;
-        for segment in &self.segments {
-            least = lesser(least, first_in(segment, p));
+        let first = ended_by(&self.segments, p);
+        for segment in &self.segments[first..] {
+            if let Some(word) = first_in(segment, p) {
+                return Some(word);
+            }
         }
-        least
-    }
-}
-
-/// The lesser of two addresses that may be there.
-fn lesser(a: Option<u32>, b: Option<u32>) -> Option<u32>
-    ensures { result ≡ lesser_of a b }
-{
-    match (a, b) {
-        (Some(a), Some(b)) => Some(a.min(b)),
-        (Some(a), None) => Some(a),
-        (None, b) => b,
+        None
     }
 }
 
@@ -86,9 +82,8 @@ fn first_in(segment: &Segment, p: u32) -> Option<u32>
     requires { segment.now.at + segment.now.size ≤ 2 ^ 32 }
     ensures { IsNextIn segment.now p result }
 {
-    let end = segment.at as u64 + segment.size as u64;
     let least = (segment.at.max(p) as u64).div_ceil(4) * 4;
-    if least + 4 <= end {
+    if least + 4 <= end_of(segment) {
         Some(least as u32)
     } else {
         None
@@ -98,27 +93,46 @@ fn first_in(segment: &Segment, p: u32) -> Option<u32>
 fn covers(segment: &Segment, p: u32) -> bool
     ensures { result ≡ has_word p segment.now }
 {
-    segment.at <= p && p as u64 + 4 <= segment.at as u64 + segment.size as u64
+    segment.at <= p && p as u64 + 4 <= end_of(segment)
 }
 
-/// The segment that has all four bytes at an address.
+/// The address right behind a segment.
+fn end_of(segment: &Segment) -> u64
+    ensures { result ≡ segment.now.at + segment.now.size }
+{
+    segment.at as u64 + segment.size as u64
+}
+
+/// The segment that has all four bytes at an address: only the last one that begins at or below it can.
 fn segment_of(segments: &[Segment], p: u32) -> Option<Segment>
+    requires { AllPairs EndsBefore segments.now }
     ensures first { result ≡ find (has_word p) segments.now }
     ensures within { IfSome result (Contains segments.now) }
     ensures covers { IfSome result (λ s. IsTrue (has_word p s)) }
 {
-    segments.iter().copied().find(|s| covers(s, p))
+    let begun = begun_by(segments, p);
+    if begun == 0 {
+        return None;
+    }
+    let last = segments[begun - 1];
+    if covers(&last, p) { Some(last) } else { None }
 }
 
-/// The little-endian number of the four bytes at a place.
-fn number_at(file: &[u8], start: usize) -> u32
-    requires { start + 4 ≤ length file.now }
-    ensures { result ≡ u32_at file.now start }
+/// How many segments begin at or below an address: these are the first ones.
+fn begun_by(segments: &[Segment], p: u32) -> usize
+    requires { AllPairs EndsBefore segments.now }
+    ensures begun { AllWithin (λ s. s.at ≤ p) segments.now 0 result }
+    ensures above { AllWithin (λ s. p < s.at) segments.now result (length segments.now) }
+    ensures within { result ≤ length segments.now }
 {
-    u32::from_le_bytes([
-        file[start],
-        file[start + 1],
-        file[start + 2],
-        file[start + 3],
-    ])
+    segments.partition_point(|s| s.at <= p)
+}
+
+/// How many segments end at or below an address: these are the first ones.
+fn ended_by(segments: &[Segment], p: u32) -> usize
+    requires { AllPairs EndsBefore segments.now }
+    ensures ended { AllWithin (λ s. s.at + s.size ≤ p) segments.now 0 result }
+    ensures within { result ≤ length segments.now }
+{
+    segments.partition_point(|s| end_of(s) <= p as u64)
 }

@@ -1,6 +1,7 @@
 -- The headers of an ELF32 file, after the ELF specification's Elf32_Ehdr and Elf32_Phdr.
 use Rattle.std.specs.Prelude.{ℕ, ◌+◌, ◌*◌, ◌%◌, Bool, not, ◌&&◌, List, Option, find, nat_lt, ◌==◌, slice_index}
 use Rattle.std.specs.List.{list_any, range_with_len}
+use Rattle.elf_spec.specs.declared.program_header.ProgramHeader.{ProgramHeader}
 use Rattle.elf_spec.specs.Number.{u16_at, u32_at}
 
 abbrev pub magic : List ℕ → ℕ
@@ -35,14 +36,6 @@ e_phentsize file = u16_at file 42
 
 abbrev pub e_phnum : List ℕ → ℕ
 e_phnum file = u16_at file 44
-
--- a program header
-pub record ProgramHeader : Type 0 where
-  pub p_type : ℕ
-  pub p_offset : ℕ
-  pub p_vaddr : ℕ
-  pub p_filesz : ℕ
-  pub p_flags : ℕ
 
 -- the place right behind the program headers
 abbrev pub headers_end : List ℕ → ℕ

@@ -4,8 +4,9 @@ use Rattle.std.specs.Prelude.{ℕ, ◌+◌, ◌^◌, Bool, true, not, ◌&&◌, 
 use Rattle.std.specs.List.{range_with_len}
 use Rattle.elf_spec.specs.declared.fault.ElfFault.{ElfFault}
 use Rattle.elf_spec.specs.declared.fault.ElfFault.TheVariants.{Truncated, NotElf, NotClass32, NotLittle, BadVersion, NotExecutable, NotRiscv, BadEntrySize, TooManySegments, SegmentOutside, SegmentWraps, SegmentsOverlap, NoText}
+use Rattle.elf_spec.specs.declared.program_header.ProgramHeader.{ProgramHeader}
 use Rattle.elf_spec.specs.declared.segment.Segment.{Segment}
-use Rattle.elf_spec.specs.Header.{ProgramHeader, magic, class, encoding, ident_version, e_type, e_machine, e_version, e_entry, e_phentsize, e_phnum, headers_end, header, is_executable, meets_earlier, first_executable}
+use Rattle.elf_spec.specs.Header.{magic, class, encoding, ident_version, e_type, e_machine, e_version, e_entry, e_phentsize, e_phnum, headers_end, header, is_executable, meets_earlier, first_executable}
 
 -- a test that fails where something holds
 abbrev pub fails_where : Bool → ElfFault → Option ElfFault

@@ -2,4 +2,3 @@ pub mod Number
 pub mod Header
 pub mod Image
 pub mod Word
-pub mod Wrapped

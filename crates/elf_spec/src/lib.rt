@@ -5,7 +5,9 @@
 #![tactic(auto)]
 
 mod fault;
+mod program_header;
 mod segment;
 
 pub use fault::ElfFault;
+pub use program_header::ProgramHeader;
 pub use segment::Segment;

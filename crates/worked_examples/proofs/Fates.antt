@@ -6,6 +6,7 @@ use Rattle.riscv_spec.specs.Pair.{pair_of}
 use Rattle.riscv_spec.specs.Table.{kind_of}
 use Rattle.cache_spec.specs.Contents.{ends_in_hit}
 use Rattle.flow_spec.specs.Configuration.{Configuration, start_of}
+use Rattle.flow_spec.specs.Next.{next_at}
 use Rattle.flow_spec.specs.Successors.{successors}
 use Rattle.transition_spec.specs.Path.{IsPath}
 use Rattle.report_spec.specs.declared.line.Verdict.TheVariants.{AlwaysHit, Unknown}
@@ -56,7 +57,7 @@ unreached addresses (path, ends, is) =
 
 module _ (Ends : Configuration → Type 0) where
   once_to : Ends (at 0x10004) → EndsIn (program_of loop_and_rest) 0x10000 Ends (at 0x10004 ∷ at 0x10000 ∷ [])
-  unfolding successors word_at kind_of pair_of
+  unfolding successors next_at word_at kind_of pair_of
   once_to ends = record {
     last = at 0x10004;
     earlier = at 0x10000 ∷ [];
@@ -66,7 +67,7 @@ module _ (Ends : Configuration → Type 0) where
   }
 
   through : Ends (at 0x10008) → EndsIn (program_of loop_and_rest) 0x10000 Ends (at 0x10008 ∷ at 0x10004 ∷ at 0x10000 ∷ [])
-  unfolding successors word_at kind_of pair_of
+  unfolding successors next_at word_at kind_of pair_of
   through ends = record {
     last = at 0x10008;
     earlier = at 0x10004 ∷ at 0x10000 ∷ [];
@@ -83,7 +84,7 @@ module _ (Ends : Configuration → Type 0) where
 
   pub first_right : Ends (at 0x10000)
       → IsRight (program_of loop_and_rest) 0x10000 (geometry 16 1 1) Ends (Unknown (way 3 (codes "t")) (way 1 []))
-  unfolding successors word_at kind_of pair_of
+  unfolding successors next_at word_at kind_of pair_of
   first_right ends = (
     record {
       path = at 0x10000 ∷ at 0x10004 ∷ at 0x10000 ∷ [];

@@ -8,6 +8,7 @@ use Rattle.riscv_spec.specs.Table.{kind_of}
 use Rattle.flow_spec.specs.Acceptance.{Step}
 use Rattle.flow_spec.specs.Configuration.{Configuration}
 use Rattle.flow_spec.specs.Order.{configuration_cmp}
+use Rattle.flow_spec.specs.Next.{next_at}
 use Rattle.flow_spec.specs.Successors.{Successors, successors}
 use Rattle.transition_spec.specs.Layer.{IsReachedIn, IsInLayer, IsLayer}
 use Rattle.transition_spec.specs.Path.{IsSuccessor}
@@ -88,11 +89,11 @@ reached_fourth : (c : Configuration) → Reached step 3 c → c ≡ at 0x10004
 reached_fourth c reached = let before = reached_next step 2 c reached in follows_third before.0 c (reached_third before.0 before.1) before.2
 
 to_second : IsSuccessor step (at 0x10000) (at 0x10004)
-unfolding successors word_at kind_of pair_of
+unfolding successors next_at word_at kind_of pair_of
 to_second = (0, lit< tt, refl)
 
 to_third : IsSuccessor step (at 0x10004) (at 0x10008)
-unfolding successors word_at kind_of pair_of
+unfolding successors next_at word_at kind_of pair_of
 to_third = (0, lit< tt, refl)
 
 second_layer : IsLayer step (at 0x10000) configuration_cmp 1 (at 0x10004 ∷ [])
@@ -143,7 +144,7 @@ last_layer = record {
 }
 
 pub loop_accepted : IsAcceptedIn loop_and_rest loop_layers
-unfolding successors word_at kind_of pair_of
+unfolding successors next_at word_at kind_of pair_of
 loop_accepted = record {
   entry_is_good = refl;
   are_layers = (start_layer step, (second_layer, (third_layer, (last_layer, tt))));

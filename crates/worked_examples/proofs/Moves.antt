@@ -6,6 +6,7 @@ use Rattle.riscv_spec.specs.Pair.{pair_of}
 use Rattle.riscv_spec.specs.Table.{kind_of}
 use Rattle.flow_spec.specs.Acceptance.{Step}
 use Rattle.flow_spec.specs.Configuration.{Configuration, start_of}
+use Rattle.flow_spec.specs.Next.{next_at}
 use Rattle.flow_spec.specs.Successors.{Successors, successors}
 use Rattle.transition_spec.specs.Path.{IsPath, IsSuccessor}
 use Rattle.worked_examples.specs.Programs.{program_of, at, loop_and_rest}
@@ -14,15 +15,15 @@ abbrev pub step : Step
 step = successors (program_of loop_and_rest) 0x10000
 
 pub first : step (at 0x10000) ≡ Ok (at 0x10004 ∷ [])
-unfolding successors word_at kind_of pair_of
+unfolding successors next_at word_at kind_of pair_of
 first = refl
 
 pub second : step (at 0x10004) ≡ Ok (at 0x10008 ∷ at 0x10000 ∷ [])
-unfolding successors word_at kind_of pair_of
+unfolding successors next_at word_at kind_of pair_of
 second = refl
 
 pub third : step (at 0x10008) ≡ Ok []
-unfolding successors word_at kind_of pair_of
+unfolding successors next_at word_at kind_of pair_of
 third = refl
 
 -- one of the three words

@@ -1,3 +1,4 @@
+pub mod Headers
 pub mod Programs
 pub mod Files
 pub mod Segments

@@ -5,7 +5,7 @@ use Rattle.riscv_spec.specs.declared.kind.Link.{Link}
 use Rattle.flow_spec.specs.declared.frame.Frame.{Frame}
 use Rattle.flow_spec.specs.Configuration.{Configuration, configuration}
 use Rattle.elf_spec.specs.Image.{Image}
-use Rattle.elf_spec.specs.Wrapped.{head_for}
+use Rattle.worked_examples.specs.Headers.{head_for}
 
 -- a file of these words
 abbrev pub file_of : List ℕ → List ℕ

@@ -5,7 +5,7 @@ use Rattle.elf_spec.specs.declared.segment.Segment.{Segment}
 use Rattle.elf_spec.specs.declared.fault.ElfFault.{ElfFault}
 use Rattle.elf_spec.specs.declared.fault.ElfFault.TheVariants.{SegmentOutside, SegmentWraps, SegmentsOverlap, NoText}
 use Rattle.elf_spec.specs.Image.{Image}
-use Rattle.elf_spec.specs.Wrapped.{file_header}
+use Rattle.worked_examples.specs.Headers.{file_header}
 
 -- a loaded program header: its place in the file, its address, its bytes and its flags
 abbrev pub loaded : ℕ → ℕ → ℕ → ℕ → List ℕ

@@ -3,7 +3,6 @@ ghost use Rattle.cache_spec.specs.Contents.{ends_in_hit};
 ghost use Rattle.cache_spec.specs.Lru.{touch, is_in};
 ghost use Rattle.elf_spec.specs.Image.{image_of};
 ghost use Rattle.elf_spec.specs.Word.{word_at};
-ghost use Rattle.elf_spec.specs.Wrapped.{IsWrapped, wrapped_image};
 ghost use Rattle.flow_spec.specs.declared.fault.FlowFault.TheVariants.{BadEntry, BadTarget, Illegal};
 ghost use Rattle.flow_spec.specs.Configuration.{start_of};
 ghost use Rattle.flow_spec.specs.Order.{configuration_cmp};
@@ -24,13 +23,11 @@ ghost use Rattle.worked_examples.specs.Segments.{segments_of, worked_segments, w
 ghost use Rattle.worked_examples.specs.Texts.{worked_lines};
 ghost use Rattle.worked_examples.specs.Ways.{once_around, once_around_way};
 
-/// A file of two words has its image and its words, and is of the one form that is read today; files that lack a part of
-/// it or change a byte are refused.
+/// A file of two words has its image and its words; files that lack a part of it or change a byte are refused.
 pub fn worked_file()
     ensures image { image_of two_words ≡ Ok two_words_image }
     ensures words { map (λ p. word_at two_words_image p.0) worked_places ≡ map (λ p. p.1) worked_places }
     ensures refused { map (λ f. image_of f.0) worked_refusals ≡ map (λ f. Err f.1) worked_refusals }
-    ensures wrapped { IsWrapped two_words × (wrapped_image two_words ≡ two_words_image) }
     ensures program { program_of (0x00000013 ∷ 0x00100073 ∷ []) ≡ two_words_image }
 {}
 

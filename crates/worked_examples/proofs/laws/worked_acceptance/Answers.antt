@@ -8,6 +8,7 @@ use Rattle.riscv_spec.specs.Table.{kind_of}
 use Rattle.flow_spec.specs.Acceptance.{Step}
 use Rattle.flow_spec.specs.Configuration.{Configuration}
 use Rattle.flow_spec.specs.Order.{configuration_cmp}
+use Rattle.flow_spec.specs.Next.{next_at}
 use Rattle.flow_spec.specs.Successors.{successors}
 use Rattle.transition_spec.specs.Layer.{IsInLayer, IsLayer}
 use Rattle.transition_spec.specs.Path.{IsSuccessor}
@@ -21,15 +22,15 @@ abbrev steps : Step
 steps = successors (program_of two_faults) 0x10000
 
 branches : steps (at 0x10000) ≡ Ok (at 0x10004 ∷ at 0x10008 ∷ [])
-unfolding successors word_at kind_of pair_of
+unfolding successors next_at word_at kind_of pair_of
 branches = refl
 
 to_first : IsSuccessor steps (at 0x10000) (at 0x10004)
-unfolding successors word_at kind_of pair_of
+unfolding successors next_at word_at kind_of pair_of
 to_first = (0, lit< tt, refl)
 
 to_other : IsSuccessor steps (at 0x10000) (at 0x10008)
-unfolding successors word_at kind_of pair_of
+unfolding successors next_at word_at kind_of pair_of
 to_other = (1, lit< tt, refl)
 
 in_both : (c : Configuration) → (c ≡ at 0x10004) ⊎ (c ≡ at 0x10008) → IsInLayer steps (at 0x10000) 1 c
@@ -57,7 +58,7 @@ unfolding word_at pair_of
 returns-clause-bad_entry c = inl (refl, refl)
 
 pub returns-clause-bad_target : goal.returns-clause-bad_target
-unfolding successors word_at kind_of pair_of
+unfolding successors next_at word_at kind_of pair_of
 returns-clause-bad_target c = inr (inl (
   [],
   [],
@@ -68,7 +69,7 @@ returns-clause-bad_target c = inr (inl (
 ))
 
 pub returns-clause-first_fault : goal.returns-clause-first_fault
-unfolding successors word_at kind_of pair_of
+unfolding successors next_at word_at kind_of pair_of
 returns-clause-first_fault c = inr (inl (
   (at 0x10000 ∷ []) ∷ [],
   [],

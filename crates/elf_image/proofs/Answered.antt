@@ -1,0 +1,53 @@
+-- The answer of the first group of tests that fails is that of the file.
+use Rattle.std.proofs.Common.{◌≡◌, ℕ, Option, Some, None, Ok, Err, List, ◌++◌, ap, ◌∙◌}
+use Rattle.elf_spec.specs.declared.fault.ElfFault.{ElfFault}
+use Rattle.elf_spec.specs.Image.{image_of, answer_of, kept_of, first_fault}
+use Rattle.elf_image.specs.Tests.{identity_tests, machine_tests, table_tests, segment_tests}
+use Rattle.elf_image.proofs.Faults.{passed, failed}
+
+-- the groups behind the first, and those behind the second
+abbrev behind_identity : List ℕ → List (Option ElfFault)
+behind_identity file = machine_tests file ++ (table_tests file ++ segment_tests file)
+
+abbrev behind_machine : List ℕ → List (Option ElfFault)
+behind_machine file = table_tests file ++ segment_tests file
+
+pub fault_of_identity : (file : List ℕ) (fault : ElfFault) → first_fault (identity_tests file) ≡ Some fault → image_of file ≡ Err fault
+unfolding image_of
+fault_of_identity file fault here = ap (answer_of file) (failed (identity_tests file) (behind_identity file) fault here)
+
+pub fault_of_machine : (file : List ℕ) (fault : ElfFault) → first_fault (identity_tests file) ≡ None
+    → first_fault (machine_tests file) ≡ Some fault → image_of file ≡ Err fault
+unfolding image_of
+fault_of_machine file fault identity here =
+    ap (answer_of file)
+    (passed (identity_tests file) (behind_identity file) identity
+    ∙ failed (machine_tests file) (behind_machine file) fault here)
+
+pub fault_of_table : (file : List ℕ) (fault : ElfFault) → first_fault (identity_tests file) ≡ None → first_fault (machine_tests file) ≡ None
+    → first_fault (table_tests file) ≡ Some fault → image_of file ≡ Err fault
+unfolding image_of
+fault_of_table file fault identity machine here =
+    ap (answer_of file)
+    (passed (identity_tests file) (behind_identity file) identity
+    ∙ (passed (machine_tests file) (behind_machine file) machine
+    ∙ failed (table_tests file) (segment_tests file) fault here))
+
+last_group : (file : List ℕ) → first_fault (identity_tests file) ≡ None → first_fault (machine_tests file) ≡ None
+    → first_fault (table_tests file) ≡ None → image_of file ≡ answer_of file (first_fault (segment_tests file))
+unfolding image_of
+last_group file identity machine table =
+    ap (answer_of file)
+    (passed (identity_tests file) (behind_identity file) identity
+    ∙ (passed (machine_tests file) (behind_machine file) machine
+    ∙ passed (table_tests file) (segment_tests file) table))
+
+pub fault_of_segments : (file : List ℕ) (fault : ElfFault) → first_fault (identity_tests file) ≡ None → first_fault (machine_tests file) ≡ None
+    → first_fault (table_tests file) ≡ None → first_fault (segment_tests file) ≡ Some fault → image_of file ≡ Err fault
+fault_of_segments file fault identity machine table here =
+    last_group file identity machine table ∙ ap (answer_of file) here
+
+-- a file that passes them all is kept
+pub kept : (file : List ℕ) → first_fault (identity_tests file) ≡ None → first_fault (machine_tests file) ≡ None
+    → first_fault (table_tests file) ≡ None → first_fault (segment_tests file) ≡ None → image_of file ≡ Ok (kept_of file)
+kept file identity machine table segments = last_group file identity machine table ∙ ap (answer_of file) segments

@@ -1,0 +1,29 @@
+ghost use Rattle.std.specs.Prelude.{◌≡◌, ◌≤◌, ◌⊎◌, length, IfOk, IfErr, Ok, Err};
+ghost use Rattle.elf_spec.specs.Image.{image_of};
+
+use crate::Image;
+use crate::elf_file::ElfFile;
+use elf_spec::ElfFault;
+use std::alloc::Global;
+
+/// The executable that a file is, or the answer of the first test that it fails. The file has at most 16,777,216 bytes.
+pub fn read(alloc: Global, bytes: Vec<u8>) -> Result<Image, ElfFault>
+    requires { length bytes.items ≤ 16777216 }
+    ensures image { IfOk result (λ image. image_of bytes.items ≡ Ok image) }
+    ensures fault { IfErr result (λ fault. (image_of bytes.items ≡ Err fault) ⊎ (fault ≡ ElfFault.OutOfMemory)) }
+{
+    let file = ElfFile::new(&bytes);
+    file.check_identity()?;
+    file.check_machine()?;
+    file.check_table()?;
+    file.check_segments()?;
+    let entry = file.entry();
+    let Ok(segments) = file.segments(alloc) else {
+        return Err(ElfFault::OutOfMemory);
+    };
+    Ok(Image {
+        file: bytes,
+        segments,
+        entry,
+    })
+}
