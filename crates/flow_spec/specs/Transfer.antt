@@ -26,8 +26,8 @@ plus address (pos n) = (address + n) % 2 ^ 32
 plus address (negsuc n) = (address + 2 ^ 32 - (n + 1)) % 2 ^ 32
 
 -- the address of the next word, and of the word before
-abbrev pub next_of : ℕ → ℕ
-next_of address = (address + 4) % 2 ^ 32
+abbrev pub next_word : ℕ → ℕ
+next_word address = (address + 4) % 2 ^ 32
 
 abbrev pub before : ℕ → ℕ
 before address = (address + 2 ^ 32 - 4) % 2 ^ 32

@@ -1,22 +1,31 @@
 use std::alloc::AllocError;
+use thiserror::Error;
 
 /// Why a program isn't accepted. Addresses are in bytes.
-#[derive(Clone, Copy, Debug, PartialEq, Eq)]
+#[derive(Clone, Copy, Debug, PartialEq, Eq, Error)]
 pub enum FlowFault {
     /// The entry isn't in the text, or is the second half of a pair.
+    #[error("the program can't begin at {entry:#010x}")]
     BadEntry { entry: u32 },
     /// A word of no kind.
+    #[error("the word {word:#010x} at {at:#010x} is no instruction")]
     Illegal { at: u32, word: u32 },
     /// A jump whose target isn't known, or a return that matches no open call.
+    #[error("where the jump at {at:#010x} leads isn't known")]
     ComputedJump { at: u32 },
     /// The next word isn't in the text, or a target isn't, or is the second half of a pair.
+    #[error("the word at {at:#010x} leads to {target:#010x}, where control can't go")]
     BadTarget { at: u32, target: u32 },
     /// A call of a function that is open, or of the entry.
+    #[error("the call at {at:#010x} is recursive")]
     Recursion { at: u32 },
     /// More configurations than the limit.
+    #[error("the program has more than {limit} fetches")]
     TooManyFetches { limit: u32 },
     /// A branch, a jump, a call, a return or a computed jump, none of which is followed today.
+    #[error("the word at {at:#010x} isn't followed yet")]
     NotBuilt { at: u32 },
+    #[error("out of memory")]
     OutOfMemory,
 }
 

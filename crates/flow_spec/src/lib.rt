@@ -6,7 +6,9 @@
 
 mod fault;
 mod frame;
+mod next;
 
 pub use fault::FlowFault;
 pub use frame::Frame;
+pub use next::Next;
 pub use riscv_spec::Link;
