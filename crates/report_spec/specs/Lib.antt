@@ -2,3 +2,4 @@ pub mod Text
 pub mod Valid
 pub mod Right
 pub mod Report
+pub mod Graph

@@ -4,7 +4,9 @@
 //! speaks of. The lines and their texts are this project's own format.
 #![tactic(auto)]
 
+mod graph_line;
 mod line;
 
+pub use graph_line::GraphLine;
 pub use line::{Line, Verdict};
 pub use transition_spec::{Choices, Way};

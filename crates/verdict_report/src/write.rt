@@ -123,7 +123,7 @@ fn push_choices(into: &mut Vec<u8>, letters: &[u8]) -> Result<(), AllocError>
 }
 
 /// The fields of a configuration before its verdict.
-fn push_context(
+pub(crate) fn push_context(
     into: &mut Vec<u8>,
     node: u32,
     at: u32,
@@ -169,7 +169,7 @@ fn push_back(into: &mut Vec<u8>, back: Option<u32>) -> Result<(), AllocError>
     }
 }
 
-fn push_number(into: &mut Vec<u8>, n: u64) -> Result<(), AllocError>
+pub(crate) fn push_number(into: &mut Vec<u8>, n: u64) -> Result<(), AllocError>
     ensures ok { OnOk result (into.new.items ≡ into.old.items ++ decimal n) }
     ensures err { OnErr result (into.new.items ≡ into.old.items) }
 {

@@ -1,0 +1,180 @@
+-- Reading from left to right: a field's value and the text behind it, where the text begins with such a field.
+-- The clauses of the readers of single fields cite it. What `read_line` gives is said without it, by the texts of lines.
+use Rattle.std.specs.Prelude.{◌≡◌, ℕ, ◌^◌, ◌==◌, ◌&&◌, nat_lt, nat_le, Bool, if◌then◌else◌, List, [], ◌∷◌, length, take, drop, Option, Some, None, option_map, codes, decimal, Result, Ok, Err}
+use Rattle.std.specs.List.{list_all}
+use Rattle.std.specs.Option.{option_or}
+use Rattle.std.specs.Str.{bytes_eq}
+use Rattle.std.specs.Str.Parse.{digits_value}
+use Rattle.std.specs.Int.{w32, from_be_bytes}
+use Rattle.hex.specs.Hex.{decode_sized}
+use Rattle.transition_spec.specs.declared.way.Way.{Way}
+use Rattle.report_spec.specs.declared.line.Line.{Line}
+use Rattle.report_spec.specs.declared.line.Line.TheVariants.{Unreachable}
+use Rattle.report_spec.specs.declared.line.Verdict.{Verdict}
+use Rattle.report_spec.specs.declared.line.Verdict.TheVariants.{AlwaysHit, AlwaysMiss, Unknown}
+use Rattle.report_spec.specs.Text.{address_text}
+use Rattle.report_spec.specs.Valid.{is_letter, has_back_as_deep}
+use Rattle.verdict_report.specs.declared.seen.Subject.{Subject}
+use Rattle.verdict_report.specs.declared.seen.Subject.TheVariants.{Address, Configuration}
+use Rattle.verdict_report.specs.Seen.{line_with}
+
+-- the second step, if the first found something
+infixl 10 ◌>>=◌
+abbrev pub ◌>>=◌ : {A B : Type 0} → Option A → (A → Option B) → Option B
+(Some x) >>= f = f x
+None >>= f = None
+
+-- a value, if the test passes
+abbrev pub guarded : {A : Type 0} → Bool → A → Option A
+guarded test x = if test then Some x else None
+
+-- a value and the text behind it
+abbrev pub Read : Type 0 → Type 0
+Read A = Option (A × List ℕ)
+
+-- what a function answers, as seen, is what reading gives
+abbrev pub Gives : {A B : Type 0} → (A → B) → Option A → Option B → Type 0
+Gives seen (Some x) read = read ≡ Some (seen x)
+Gives seen None read = read ≡ None
+
+-- what stands behind these bytes
+unfoldable pub after : List ℕ → List ℕ → Option (List ℕ)
+after front text = guarded (bytes_eq (take (length front) text) front) (drop (length front) text)
+
+-- the text before the first byte of this value, and the text behind that byte
+unfoldable pub word_at : ℕ → List ℕ → Read (List ℕ)
+word_at end [] = None
+word_at end (byte ∷ text) = if byte == end then Some ([], text) else option_map (λ word. (byte ∷ word.0, word.1)) (word_at end text)
+
+-- the number that has this text
+unfoldable pub number_of : List ℕ → Option ℕ
+number_of digits = guarded (nat_lt (digits_value 10 digits) (2 ^ 64) && bytes_eq (decimal (digits_value 10 digits)) digits) (digits_value 10 digits)
+
+-- a number and the space behind it
+unfoldable pub number_at : List ℕ → Read ℕ
+number_at text = do
+  word ← word_at 32 text
+  n ← number_of word.0
+  Some (n, word.1)
+
+-- a number below 2 ^ 32, and the space behind it
+unfoldable pub small_at : List ℕ → Read ℕ
+small_at text = do
+  n ← number_at text
+  guarded (nat_lt n.0 (2 ^ 32)) n
+
+-- the bytes that pairs of digits spell
+abbrev pub spelled : {E : Type 0} → Result (List ℕ) E → Option (List ℕ)
+spelled (Ok bytes) = Some bytes
+spelled (Err e) = None
+
+-- the address that has this text of ten bytes
+unfoldable pub address_of : List ℕ → Option ℕ
+address_of front = do
+  bytes ← spelled (decode_sized (take 8 (drop 2 front)) 4)
+  guarded (bytes_eq (address_text (from_be_bytes w32 bytes)) front) (from_be_bytes w32 bytes)
+
+unfoldable pub address_at : List ℕ → Read ℕ
+address_at text = do
+  front ← guarded (nat_le 10 (length text)) (take 10 text)
+  p ← address_of front
+  Some (p, drop 10 text)
+
+-- letters, or none for a dash
+unfoldable pub choices_of : List ℕ → Option (List ℕ)
+choices_of [] = None
+choices_of (letter ∷ letters) =
+    if bytes_eq (letter ∷ letters) (codes "-") then Some []
+    else guarded (list_all is_letter (letter ∷ letters)) (letter ∷ letters)
+
+-- a way and the byte at which it ends
+unfoldable pub way_at : ℕ → List ℕ → Read Way
+way_at end text = do
+  steps ← number_at text
+  letters ← word_at end steps.1
+  choices ← choices_of letters.0
+  guarded (nat_lt 0 steps.0) (record { steps = steps.0; choices = choices }, letters.1)
+
+-- both ways, and the line end
+unfoldable pub unknown_at : List ℕ → Read Verdict
+unknown_at text = do
+  behind ← after (codes "unknown hit ") text
+  hit ← way_at 32 behind
+  behind ← after (codes "miss ") hit.1
+  miss ← way_at 10 behind
+  Some (Unknown hit.0 miss.0, miss.1)
+
+-- this verdict, and what stands behind it
+abbrev pub told : Verdict → Option (List ℕ) → Read Verdict
+told verdict behind = option_map (λ text. (verdict, text)) behind
+
+-- a verdict and the line end
+unfoldable pub verdict_at : List ℕ → Read Verdict
+verdict_at text =
+    option_or (told AlwaysHit (after (codes "always-hit\n") text))
+    (option_or (told AlwaysMiss (after (codes "always-miss\n") text)) (unknown_at text))
+
+-- a space, a verdict and the line end
+unfoldable pub said_at : List ℕ → Read Verdict
+said_at text = do
+  behind ← after (codes " ") text
+  verdict_at behind
+
+-- the newest return address, if there is one
+unfoldable pub back_at : List ℕ → Read (Option ℕ)
+back_at text =
+    option_or (option_map (λ behind. (None, behind)) (after (codes "none") text))
+    (option_map (λ p. (Some p.0, p.1)) (address_at text))
+
+-- the number of a configuration and its address
+unfoldable pub place_at : List ℕ → Read (ℕ × ℕ)
+place_at text = do
+  behind ← after (codes "#") text
+  node ← small_at behind
+  at ← address_at node.1
+  Some ((node.0, at.0), at.1)
+
+-- how many calls are open, and the newest return address
+unfoldable pub calls_at : List ℕ → Read (ℕ × Option ℕ)
+calls_at text = do
+  behind ← after (codes " depth ") text
+  depth ← small_at behind
+  behind ← after (codes "back ") depth.1
+  back ← back_at behind
+  guarded (has_back_as_deep depth.0 back.0) ((depth.0, back.0), back.1)
+
+-- a configuration's number, address and open calls
+unfoldable pub configuration_at : List ℕ → Read Subject
+configuration_at text = do
+  place ← place_at text
+  calls ← calls_at place.1
+  Some (Configuration place.0.0 place.0.1 calls.0.0 calls.0.1, calls.1)
+
+-- what a line with a verdict speaks of
+unfoldable pub subject_at : List ℕ → Read Subject
+subject_at text = option_or (configuration_at text) (option_map (λ p. (Address p.0, p.1)) (address_at text))
+
+-- a range and the line end
+unfoldable pub range_at : List ℕ → Read Line
+range_at text = do
+  first ← address_at text
+  behind ← after (codes "-") first.1
+  last ← address_at behind
+  behind ← after (codes " unreachable\n") last.1
+  guarded (nat_le first.0 last.0) (Unreachable first.0 last.0, behind)
+
+-- a line with a verdict, and the line end
+unfoldable pub told_at : List ℕ → Read Line
+told_at text = do
+  subject ← subject_at text
+  said ← said_at subject.1
+  Some (line_with subject.0 said.0, said.1)
+
+unfoldable pub line_at : List ℕ → Read Line
+line_at text = option_or (range_at text) (told_at text)
+
+-- the line that has this text
+unfoldable pub line_of : List ℕ → Option Line
+line_of text = do
+  line ← line_at text
+  guarded (length line.1 == 0) line.0

@@ -1,0 +1,113 @@
+// The fields of a line. Each reader gives a field's value and the text behind it, where a text begins with such a field.
+ghost use Rattle.std.specs.Prelude.{◌≡◌};
+ghost use Rattle.std.specs.List.{list_all};
+ghost use Rattle.report_spec.specs.Valid.{is_letter};
+ghost use Rattle.verdict_report.specs.Reading.{Gives, after, word_at, number_of, number_at, small_at, address_of, address_at, choices_of, back_at};
+
+use crate::address_text;
+use hex::FromHex;
+use itoa::Buffer;
+use std::str;
+
+/// What stands behind these bytes.
+#[tactic(auto, unfolding(crate::specs::Reading::after))]
+pub fn after<'a>(text: &'a [u8], front: &[u8]) -> Option<&'a [u8]>
+    ensures { Gives (λ behind. behind.now) result (after front.now text.now) }
+{
+    text.strip_prefix(front)
+}
+
+/// The text before the first byte of this value, and the text behind that byte.
+pub fn word_at(text: &[u8], end: u8) -> Option<(&[u8], &[u8])>
+    ensures { Gives (λ word. (word.0.now, word.1.now)) result (word_at end text.now) }
+{
+    let at = text.iter().position(|byte| *byte == end)?;
+    Some((&text[..at], &text[at + 1..]))
+}
+
+/// The number that has this text.
+fn number_of(digits: &[u8]) -> Option<u64>
+    ensures { result ≡ number_of digits.now }
+{
+    let n = str::from_utf8(digits).ok()?.parse::<u64>().ok()?;
+    let mut buffer = Buffer::new();
+    if buffer.format(n).as_bytes() == digits {
+        Some(n)
+    } else {
+        None
+    }
+}
+
+/// A number and the space behind it.
+#[tactic(auto, unfolding(crate::specs::Reading::number_at))]
+pub fn number_at(text: &[u8]) -> Option<(u64, &[u8])>
+    ensures { Gives (λ read. (read.0, read.1.now)) result (number_at text.now) }
+{
+    let (digits, behind) = word_at(text, b' ')?;
+    Some((number_of(digits)?, behind))
+}
+
+/// A number below 2 ^ 32, and the space behind it.
+#[tactic(auto, unfolding(crate::specs::Reading::small_at))]
+pub fn small_at(text: &[u8]) -> Option<(u32, &[u8])>
+    ensures { Gives (λ read. (read.0, read.1.now)) result (small_at text.now) }
+{
+    let (n, behind) = number_at(text)?;
+    Some((u32::try_from(n).ok()?, behind))
+}
+
+/// The address that has this text.
+#[tactic(auto, unfolding(crate::specs::Reading::address_of))]
+fn address_of(front: &[u8; 10]) -> Option<u32>
+    ensures { result ≡ address_of front.now }
+{
+    let p = u32::from_be_bytes(<[u8; 4]>::from_hex(&front[2..]).ok()?);
+    if address_text(p) == *front {
+        Some(p)
+    } else {
+        None
+    }
+}
+
+#[tactic(auto, unfolding(crate::specs::Reading::address_at))]
+pub fn address_at(text: &[u8]) -> Option<(u32, &[u8])>
+    ensures { Gives (λ read. (read.0, read.1.now)) result (address_at text.now) }
+{
+    let (front, behind) = text.split_first_chunk::<10>()?;
+    Some((address_of(front)?, behind))
+}
+
+/// Letters, or none for a dash.
+#[tactic(auto, unfolding(crate::specs::Reading::choices_of))]
+pub fn choices_of(letters: &[u8]) -> Option<&[u8]>
+    ensures { Gives (λ choices. choices.now) result (choices_of letters.now) }
+{
+    if letters == b"-".as_slice() {
+        return Some(&[]);
+    }
+    if !letters.is_empty() && are_letters(letters) {
+        Some(letters)
+    } else {
+        None
+    }
+}
+
+fn are_letters(letters: &[u8]) -> bool
+    ensures { result ≡ list_all is_letter letters.now }
+{
+    letters
+        .iter()
+        .all(|letter| *letter == b'n' || *letter == b't')
+}
+
+/// The newest return address, if there is one.
+#[tactic(auto, unfolding(crate::specs::Reading::back_at))]
+pub fn back_at(text: &[u8]) -> Option<(Option<u32>, &[u8])>
+    ensures { Gives (λ read. (read.0, read.1.now)) result (back_at text.now) }
+{
+    if let Some(behind) = after(text, b"none") {
+        return Some((None, behind));
+    }
+    let (p, behind) = address_at(text)?;
+    Some((Some(p), behind))
+}

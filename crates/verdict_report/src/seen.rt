@@ -1,0 +1,30 @@
+// What is read of a line before its choices are copied.
+
+/// A way whose choices stand in the text.
+#[derive(Clone, Copy)]
+pub struct SeenWay<'a> {
+    pub steps: u64,
+    pub choices: &'a [u8],
+}
+
+/// A verdict whose choices stand in the text.
+#[derive(Clone, Copy)]
+pub enum SeenVerdict<'a> {
+    AlwaysHit,
+    AlwaysMiss,
+    Unknown { hit: SeenWay<'a>, miss: SeenWay<'a> },
+}
+
+/// What a line with a verdict speaks of.
+#[derive(Clone, Copy)]
+pub enum Subject {
+    Address {
+        at: u32,
+    },
+    Configuration {
+        node: u32,
+        at: u32,
+        depth: u32,
+        back: Option<u32>,
+    },
+}
