@@ -1,0 +1,13 @@
+pub mod Zipped
+pub mod Searched
+pub mod Walked
+pub mod Ordered
+pub mod New
+pub mod Paths
+pub mod Stacked
+pub mod Texts
+pub mod Edges
+pub mod Numbered
+pub mod Layer
+pub mod Further
+pub mod Finished

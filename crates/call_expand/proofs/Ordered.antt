@@ -1,0 +1,119 @@
+-- The order of configurations is total, and tells any two of them apart.
+use Rattle.std.proofs.Common.{◌≡◌, ℕ, ◌<◌, ◌≤◌, List, [], ◌∷◌, length, refl, ap, arith}
+use denote.Param.Members.{Mut}
+use denote.Ref.{Bor}
+use Rattle.std.specs.Prelude.{flat_map, Bool}
+use Rattle.std.specs.Fn.{Called, ComparesAs}
+use Rattle.std.specs.List.Sorted.{IsSorted, IsSortedBy}
+use Rattle.std.proofs.lemmas.Fn.{always_returns_same}
+use Rattle.std.specs.Cmp.{IsTotalOrder, IsStrictWeakOrder}
+use Rattle.std.specs.Cmp.Lexicographic.{slice_cmp}
+use Rattle.std.specs.Ordering.{nat_cmp, is_lt, ordering_then}
+use Rattle.std.specs.declared.cmp.Ordering.{Ordering}
+use Rattle.std.specs.declared.cmp.Ordering.TheVariants.{Less, Equal, Greater}
+use Rattle.std.proofs.lemmas.Cmp.{on_total, nat_list_cmp_total, ranked, by_ranked}
+use Rattle.std.proofs.lemmas.List.Sorted.{ranks_by}
+use Rattle.riscv_spec.specs.declared.kind.Link.{Link}
+use Rattle.riscv_spec.specs.declared.kind.Link.TheVariants.{X1, X5}
+use Rattle.flow_spec.specs.Configuration.{Configuration, configuration}
+use Rattle.flow_spec.specs.Order.{link_number, frame_numbers, numbers_of, configuration_cmp}
+use Rattle.flow_spec.specs.declared.frame.Frame.{Frame}
+use Rattle.frame_stacks.specs.declared.stacks.StackCell.{StackCell}
+use Rattle.frame_stacks.specs.Stacks.{AreCells, frames_of}
+use Rattle.call_expand.specs.declared.place.Place.{Place}
+use Rattle.call_expand.specs.Place.{configuration_at, place_cmp}
+
+-- the order of places is total, and a sort may go by it
+pub place_total : (cells : List StackCell) → IsTotalOrder (place_cmp cells)
+place_total cells = on_total (λ (place : Place). numbers_of (configuration_at cells place)) nat_list_cmp_total
+
+pub place_ranks : (cells : List StackCell) → IsStrictWeakOrder (λ (a b : Place). is_lt (place_cmp cells a b))
+place_ranks cells = ranks_by nat_list_cmp_total (λ (place : Place). numbers_of (configuration_at cells place))
+
+-- two orders that are equal one after the other
+pub then_equal : (o p : Ordering) → ordering_then o p ≡ Equal → (o ≡ Equal) × (p ≡ Equal)
+then_equal Less p equal = absurd (cc)
+then_equal Equal p equal = (refl, equal)
+then_equal Greater p equal = absurd (cc)
+
+-- numbers that are compared as equal are so
+pub nat_equal : (x y : ℕ) (o : Ordering) → o ≡ nat_cmp x y → o ≡ Equal → x ≡ y
+nat_equal x y o is equal =
+    by_ranked (x < y) (x ≡ y) (y < x) o (ranked x y o is)
+    (λ (less : o ≡ Less) below. absurd (cc)) (λ (_ : o ≡ Equal) same. same) (λ (more : o ≡ Greater) above. absurd (cc))
+
+-- numbers that are compared as equal are so
+pub same_numbers : (xs ys : List ℕ) → slice_cmp nat_cmp xs ys ≡ Equal → xs ≡ ys
+same_numbers [] [] equal = refl
+same_numbers [] (y ∷ ys) equal = absurd (cc)
+same_numbers (x ∷ xs) [] equal = absurd (cc)
+same_numbers (x ∷ xs) (y ∷ ys) equal =
+    let both = then_equal (nat_cmp x y) (slice_cmp nat_cmp xs ys) equal in
+    let first : x ≡ y = nat_equal x y (nat_cmp x y) refl both.0 in
+    let rest : xs ≡ ys = same_numbers xs ys both.1 in
+    cc (first, rest)
+
+-- a frame by its parts
+abbrev frame : ℕ → Link → ℕ → Frame
+frame back link callee = record { back = back; link = link; callee = callee }
+
+-- the registers have different numbers
+link_number-apart : (a b : Link) → link_number a ≡ link_number b → a ≡ b
+link_number-apart X1 X1 same = refl
+link_number-apart X1 X5 same = absurd (omega arith)
+link_number-apart X5 X1 same = absurd (omega arith)
+link_number-apart X5 X5 same = refl
+
+-- frames with the same parts are the same
+frame-parts : (b c : ℕ) (k l : Link) (s t : ℕ) → b ≡ c → k ≡ l → s ≡ t → frame b k s ≡ frame c l t
+frame-parts b c k l s t back link callee = cc
+
+-- frames with the same numbers are the same
+same_frames : (fs gs : List Frame) → flat_map frame_numbers fs ≡ flat_map frame_numbers gs → fs ≡ gs
+same_frames [] [] same = refl
+same_frames [] (g ∷ gs) same = absurd (cc)
+same_frames (f ∷ fs) [] same = absurd (cc)
+same_frames (f ∷ fs) (g ∷ gs) same =
+    let back : f.back ≡ g.back = cc in
+    let link : f.link ≡ g.link = link_number-apart f.link g.link (cc) in
+    let callee : f.callee ≡ g.callee = cc in
+    let rest : flat_map frame_numbers fs ≡ flat_map frame_numbers gs = cc in
+    let first : f ≡ g = frame-parts f.back g.back f.link g.link f.callee g.callee back link callee in
+    cc (first, same_frames fs gs rest)
+
+-- so are configurations
+configuration-parts : (fs gs : List Frame) (p q : ℕ) → fs ≡ gs → p ≡ q → configuration fs p ≡ configuration gs q
+configuration-parts fs gs p q frames at = cc
+
+-- configurations that are compared as equal are so
+pub same_configuration : (c d : Configuration) → configuration_cmp c d ≡ Equal → c ≡ d
+same_configuration c d equal =
+    let same = same_numbers (numbers_of c) (numbers_of d) equal in
+    let at : c.at ≡ d.at = cc in
+    let numbers : flat_map frame_numbers c.frames ≡ flat_map frame_numbers d.frames = cc in
+    configuration-parts c.frames d.frames c.at d.at (same_frames c.frames d.frames numbers) at
+
+-- a place by its parts
+abbrev pub place : ℕ → ℕ → Place
+place at stack = record { at = at; stack = stack }
+
+-- places with the same parts are the same
+pub place-parts : (p q s t : ℕ) → p ≡ q → s ≡ t → place p s ≡ place q t
+place-parts p q s t at stack = cc
+
+-- places of one configuration are the same
+pub same_place : (cells : List StackCell) (a b : Place) → AreCells cells → a.stack ≤ length cells → b.stack ≤ length cells
+    → configuration_at cells a ≡ configuration_at cells b → a ≡ b
+same_place cells a b are first second same =
+    let frames : frames_of cells a.stack ≡ frames_of cells b.stack = ap (λ (c : Configuration). c.frames) same in
+    let at : a.at ≡ b.at = ap (λ (c : Configuration). c.at) same in
+    place-parts a.at b.at a.stack b.stack at (are.alone a.stack b.stack first second frames)
+
+-- a sort whose calls answer by the order leaves places in that order
+pub sorted-by : (cells : List StackCell) {F : Type 0} {g : Mut F (Bor Place × (Bor Place × Unit {0})) Ordering} {f : F} (places : List Place)
+    → ((lt : Place → Place → Bool) → IsStrictWeakOrder lt → ComparesAs g lt f → IsSortedBy lt places)
+    → ((a : Bor Place × (Bor Place × Unit {0})) (r : Ordering) (f' : F) → Called g f a r f' → (r ≡ place_cmp cells a.0.now a.1.0.now) × (f' ≡ f))
+    → IsSorted (place_cmp cells) places
+sorted-by cells places sorted calls =
+    sorted (λ a b. is_lt (place_cmp cells a b)) (place_ranks cells)
+    (always_returns_same _ _ _ (λ a r f' k. let both = calls a r f' k in (ap is_lt both.0, both.1)))

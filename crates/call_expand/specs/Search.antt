@@ -1,0 +1,68 @@
+-- A search layer by layer: what is known of the states so far, and what the next layer is.
+use Rattle.std.specs.Prelude.{◌≡◌, ℕ, ◌<◌, ◌≤◌, List, [], ◌∷◌, ◌++◌, length, Result, IsTrue, Contains, take, drop}
+use Rattle.std.specs.List.{AllByRecursion, AllZip}
+use Rattle.std.specs.List.Sorted.{IsStrictlySortedBy}
+use Rattle.std.specs.declared.cmp.Ordering.{Ordering}
+use Rattle.elf_spec.specs.Image.{Image}
+use Rattle.transition_spec.specs.Path.{IsSuccessor}
+use Rattle.transition_spec.specs.Layer.{IsReachedIn, all_of}
+use Rattle.flow_spec.specs.Transfer.{is_good_target}
+use Rattle.flow_spec.specs.Acceptance.{Step, AreLayers, IsFaultless, fetch_limit}
+use Rattle.flow_spec.specs.Successors.{successors}
+use Rattle.flow_spec.specs.Configuration.{Configuration, start_of}
+use Rattle.std.specs.BTreeMap.{BTreeMap}
+use Rattle.frame_stacks.specs.declared.stacks.StackCell.{StackCell}
+use Rattle.frame_stacks.specs.Stacks.{AreCells}
+use Rattle.call_expand.specs.Expansion.{numbered}
+use Rattle.call_expand.specs.Place.{configurations_at, ArePlaces, IsEdge}
+use Rattle.call_expand.specs.Numbers.{AreNumbers}
+use Rattle.call_expand.specs.declared.place.Place.{Place}
+use Rattle.call_expand.specs.declared.place.Edges.{Edges}
+use Rattle.call_expand.specs.declared.search.Search.{Search}
+
+-- the states of layers 0 to n, those of the last layer last; each successor of one before is among them
+pub record IsSearched {C F : Type 0} (step : C → Result (List C) F) (start : C) (n : ℕ) (before last : List C) : Type 0 where
+  pub reached : (c : C) → Contains (before ++ last) c → (m : ℕ) × (m ≤ n) × IsReachedIn step start m c
+  pub last_reached : (c : C) → Contains last c → IsReachedIn step start n c
+  pub covered : (m : ℕ) (c : C) → m ≤ n → IsReachedIn step start m c → Contains (before ++ last) c
+  pub closed : (b c : C) → Contains before b → IsSuccessor step b c → Contains (before ++ last) c
+
+-- the successors of the last layer that aren't among the states so far, in order
+pub record AreNext {C F : Type 0} (step : C → Result (List C) F) (order : C → C → Ordering) (before last next : List C) : Type 0 where
+  pub sorted : IsStrictlySortedBy order next
+  pub follow : (c : C) → Contains next c → (b : C) × Contains last b × IsSuccessor step b c
+  pub unseen : (c : C) → Contains next c → Contains (before ++ last) c → ⊥
+  pub all : (b c : C) → Contains last b → IsSuccessor step b c → Contains ((before ++ last) ++ next) c
+
+-- each configuration but the first follows one with a smaller number
+abbrev pub FollowSmaller : Step → List Configuration → Type 0
+FollowSmaller step configurations = (m : ℕ) → 1 ≤ m → m < length configurations
+    → (n : ℕ) × (n < m) × IsSuccessor step (numbered configurations n) (numbered configurations m)
+
+-- the layers up to the last one, which isn't followed yet; no configuration before it has a fault
+pub record IsWalked (step : Step) (image : Image) (entry : ℕ) (before last : List Configuration) : Type 0 where
+  pub earlier : List (List Configuration)
+  pub all : all_of earlier ≡ before
+  pub entry_is_good : IsTrue (is_good_target image entry)
+  pub are_layers : AreLayers step entry (earlier ++ last ∷ [])
+  pub faultless : AllByRecursion (IsFaultless step) before
+  pub searched : IsSearched step (start_of entry) (length earlier) before last
+  pub some : 1 ≤ length (before ++ last)
+  pub follow_smaller : FollowSmaller step (before ++ last)
+  pub begins : numbered (before ++ last) 0 ≡ start_of entry
+  pub few : length (before ++ last) ≤ fetch_limit
+
+-- the search is at the layer that begins with this number
+pub record IsAt (image : Image) (entry : ℕ) (cells : List StackCell) (places : List Place) (numbers : BTreeMap (ℕ × ℕ) ℕ) (edges : List Edges) (start : ℕ) : Type 0 where
+  pub are_cells : AreCells cells
+  pub are_places : ArePlaces image cells places
+  pub are_numbers : AreNumbers places numbers
+  pub within : start ≤ length places
+  pub each : AllZip (IsEdge (successors image entry) image cells) (take start places) edges
+  pub room : length cells ≤ start
+  pub walked : IsWalked (successors image entry) image entry (configurations_at cells (take start places)) (configurations_at cells (drop start places))
+
+-- the same, of all that a search has
+abbrev pub IsSearchAt : Image → ℕ → Search → ℕ → Type 0
+IsSearchAt image entry search start =
+    IsAt image entry search.stacks search.known.places.items search.known.numbers search.edges.items start

@@ -1,0 +1,104 @@
+ghost use Rattle.std.specs.Prelude.{◌≡◌, ◌<◌, ◌≤◌, length, slice_get};
+ghost use Rattle.flow_spec.specs.Successors.{newest};
+ghost use Rattle.path_model.specs.Graph.{IsGraph};
+ghost use Rattle.frame_stacks.specs.Stacks.{AreCells, frames_of};
+ghost use Rattle.call_expand.specs.Expansion.{numbered};
+ghost use Rattle.call_expand.specs.Place.{configurations_at, AreExpanded};
+
+use crate::place::Place;
+use flow_spec::Frame;
+use frame_stacks::{StackCell, Stacks};
+use path_model::Graph;
+use std::marker::Model;
+
+/// The configuration of a node: the address that it fetches, the number of its stack of open calls, and how many of them
+/// are open. Two configurations have one stack exactly where the same calls are open in both.
+#[derive(Clone, Copy, Debug, PartialEq, Eq)]
+pub struct Config {
+    pub at: u32,
+    pub stack: u32,
+    pub depth: u32,
+}
+
+/// The graph of an accepted program, with the configuration of each node. Its calls take no memory.
+#[derive(Drop)]
+pub struct Expanded {
+    graph: Graph,
+    places: Vec<Place>,
+    stacks: Stacks,
+}
+
+impl Model for Expanded {
+    ghost use Rattle.std.specs.Prelude.{map};
+    ghost use Rattle.call_expand.specs.Expansion.{Expansion};
+    ghost use Rattle.call_expand.specs.Place.{configurations_at, AreExpanded};
+
+    ghost Value = { Expansion };
+
+    ghost view = { λ e. record {
+      configurations = configurations_at e.stacks e.places.items;
+      nodes = e.graph;
+      cells = e.stacks;
+      stacks = map (λ place. place.stack) e.places.items;
+    } };
+
+    ghost invariant = { λ e. AreExpanded e.stacks e.places.items e.graph };
+}
+
+impl Expanded {
+    pub(crate) fn new(graph: Graph, places: Vec<Place>, stacks: Stacks) -> Self
+        requires { AreExpanded stacks places.items graph }
+        ensures configurations { result.configurations ≡ configurations_at stacks places.items }
+        ensures nodes { result.nodes ≡ graph }
+    {
+        Expanded {
+            graph,
+            places,
+            stacks,
+        }
+    }
+
+    /// The graph. Its nodes have the numbers of the configurations, and node 0 is the entry.
+    pub fn graph(&self) -> &Graph
+        ensures same { result.now ≡ self.now.nodes }
+        ensures graph { IsGraph self.now.nodes }
+    {
+        &self.graph
+    }
+
+    /// The configuration of a node, whose number is below the number of nodes.
+    pub fn config(&self, node: u32) -> Config
+        requires { node < length self.now.nodes }
+        ensures at { result.at ≡ (numbered self.now.configurations node).at }
+        ensures frames { frames_of self.now.cells result.stack ≡ (numbered self.now.configurations node).frames }
+        ensures depth { result.depth ≡ length (numbered self.now.configurations node).frames }
+        ensures stack { slice_get self.now.stacks node ≡ Some result.stack }
+        ensures known { result.stack ≤ length self.now.cells }
+    {
+        let place = self.places[node as usize];
+        Config {
+            at: place.at,
+            stack: place.stack,
+            depth: self.stacks.depth(place.stack),
+        }
+    }
+
+    /// The newest open call of a node's configuration. `None` exactly where none is open. The node's number is below the
+    /// number of nodes.
+    pub fn top(&self, node: u32) -> Option<Frame>
+        requires { node < length self.now.nodes }
+        ensures { result ≡ newest (numbered self.now.configurations node).frames }
+    {
+        let place = self.places[node as usize];
+        self.stacks.top(place.stack)
+    }
+
+    /// The cells of the stacks: that at place k puts its frame on the stack `below`, and makes stack k + 1. Equal lists
+    /// of open calls have equal stack numbers.
+    pub fn cells(&self) -> &[StackCell]
+        ensures same { result.now ≡ self.now.cells }
+        ensures cells { AreCells self.now.cells }
+    {
+        self.stacks.cells()
+    }
+}

@@ -1,0 +1,238 @@
+ghost use Rattle.std.specs.Prelude.{◌≡◌, true, ◌⊎◌, ◌+◌, ◌*◌, ◌^◌, ◌<◌, ◌≤◌, List, ◌++◌, length, drop, flat_map, IfOk, IfErr, OnOk};
+ghost use Rattle.std.specs.Option.{option_to_list};
+ghost use Rattle.std.specs.List.Sorted.{IsPermutation, IsSorted};
+ghost use Rattle.transition_spec.specs.Layer.{all_of};
+ghost use Rattle.flow_spec.specs.Configuration.{Configuration};
+ghost use Rattle.flow_spec.specs.Successors.{successors};
+ghost use Rattle.flow_spec.specs.Transfer.{is_good_target};
+ghost use Rattle.flow_spec.specs.Acceptance.{IsAccepted, IsRefused};
+ghost use Rattle.frame_stacks.specs.Stacks.{AreCells, frames_of};
+ghost use Rattle.call_expand.specs.Expansion.{IsGraphOf};
+ghost use Rattle.call_expand.specs.Place.{place_cmp, places_of};
+ghost use Rattle.call_expand.specs.Numbers.{AreNumbers, AreNodesFor, IsNodeFor, HasNumber, AreAmong, AreNumbered};
+ghost use Rattle.call_expand.specs.Search.{IsSearchAt};
+
+use crate::Expanded;
+use crate::follow::follow_from;
+use crate::known::Known;
+use crate::place::{Edges, Place};
+use elf_image::Image;
+use flow_graph::is_target;
+use flow_spec::FlowFault;
+use frame_stacks::Stacks;
+use path_model::{Graph, Node};
+use std::alloc::{AllocError, Global};
+use std::cmp::Ordering;
+
+// As many configurations as an accepted program can have.
+const LIMIT: u32 = 65_536;
+
+// The configurations so far, and the edges of those that were followed.
+#[derive(Drop)]
+struct Search {
+    stacks: Stacks,
+    known: Known,
+    edges: Vec<Edges>,
+}
+
+/// All configurations of the program that begins at the entry, and their graph.
+///
+/// The configurations are numbered by layer, then address, then frames. The errors are those of a refused program: first
+/// `BadEntry`; then, layer by layer, the fault of the first faulty configuration of the layer, else `TooManyFetches`
+/// where this layer, those before it and the next have more than 65,536 configurations together. Besides, want of memory.
+pub fn expand(alloc: Global, image: &Image, entry: u32) -> Result<Expanded, FlowFault>
+    ensures accepted { IfOk result (λ expanded. (layers : List (List Configuration))
+        × IsAccepted (successors image.now entry) image.now entry layers
+        × (expanded.configurations ≡ all_of layers)) }
+    ensures graph { IfOk result (λ expanded.
+        IsGraphOf (successors image.now entry) entry expanded.configurations expanded.nodes) }
+    ensures refused { IfErr result (λ fault. (fault ≡ FlowFault.OutOfMemory)
+        ⊎ IsRefused (successors image.now entry) image.now entry fault) }
+{
+    if !is_target(image, entry) {
+        return Err(FlowFault::BadEntry { entry });
+    }
+    let mut search = begin(alloc, image, entry)?;
+    let mut start = 0;
+    while start < search.known.places.len() {
+        let end = search.known.places.len();
+        next_layer(alloc, image, entry, &mut search, start)?;
+        start = end;
+    }
+    Ok(finish(alloc, image, entry, search)?)
+}
+
+fn begin(alloc: Global, image: &Image, entry: u32) -> Result<Search, AllocError>
+    requires { is_good_target image.now entry ≡ true }
+    ensures { IfOk result (λ search. IsSearchAt image.now entry search 0) }
+{
+    let mut known = Known::empty(alloc);
+    known.add(Place {
+        at: entry,
+        stack: 0,
+    })?;
+    Ok(Search {
+        stacks: Stacks::empty(alloc),
+        known,
+        edges: Vec::new(alloc),
+    })
+}
+
+// Follows the layer that begins with the number `start`, and numbers the next one.
+fn next_layer(
+    alloc: Global,
+    image: &Image,
+    entry: u32,
+    search: &mut Search,
+    start: usize,
+) -> Result<(), FlowFault>
+    requires at { IsSearchAt image.now entry search.old start }
+    requires some { start < length search.old.known.places.items }
+    ensures at { OnOk result (IsSearchAt image.now entry search.new (length search.old.known.places.items)) }
+    ensures refused { IfErr result (λ fault. (fault ≡ FlowFault.OutOfMemory)
+        ⊎ IsRefused (successors image.now entry) image.now entry fault) }
+{
+    let Search {
+        stacks,
+        known,
+        edges,
+    } = search;
+    follow_from(image, entry, stacks, &known.places, start, edges)?;
+    number_from(alloc, stacks, edges, start, known)?;
+    if known.places.len() > LIMIT as usize {
+        return Err(FlowFault::TooManyFetches { limit: LIMIT });
+    }
+    Ok(())
+}
+
+// Numbers the new ones of the places that all edges but the first so many lead to.
+fn number_from(
+    alloc: Global,
+    stacks: &Stacks,
+    edges: &[Edges],
+    start: usize,
+    known: &mut Known,
+) -> Result<(), AllocError>
+    requires within { start ≤ length edges.now }
+    requires numbers { AreNumbers known.old.places.items known.old.numbers }
+    requires room { length known.old.places.items + 2 * length edges.now < 2 ^ 32 }
+    ensures numbered { OnOk result (AreNumbered stacks.now (drop start edges.now) known.old.places.items known.new.places.items) }
+    ensures numbers { OnOk result (AreNumbers known.new.places.items known.new.numbers) }
+    ensures cells { OnOk result (AreCells stacks.now) }
+{
+    let mut found = found_from(alloc, edges, start)?;
+    sort(stacks, &mut found);
+    known.add_new(&found)
+}
+
+// The places that all edges but the first so many lead to.
+fn found_from(alloc: Global, edges: &[Edges], start: usize) -> Result<Vec<Place>, AllocError>
+    requires { start ≤ length edges.now }
+    ensures { IfOk result (λ found. found.items ≡ flat_map places_of (drop start edges.now)) }
+{
+    found_by(alloc, &edges[start..])
+}
+
+fn found_by(alloc: Global, edges: &[Edges]) -> Result<Vec<Place>, AllocError>
+    ensures { IfOk result (λ found. found.items ≡ flat_map places_of edges.now) }
+{
+    let mut found = Vec::new(alloc);
+    for edge in edges {
+        push_some(&mut found, edge.first)?;
+        push_some(&mut found, edge.second)?;
+    }
+    Ok(found)
+}
+
+fn push_some(found: &mut Vec<Place>, place: Option<Place>) -> Result<(), AllocError>
+    ensures { OnOk result (found.new.items ≡ found.old.items ++ option_to_list place) }
+{
+    match place {
+        Some(place) => Ok(found.push(place)?),
+        None => Ok(()),
+    }
+}
+
+// By address, then by frames.
+fn sort(stacks: &Stacks, found: &mut Vec<Place>)
+    ensures same { IsPermutation found.old.items found.new.items }
+    ensures sorted { IsSorted (place_cmp stacks.now) found.new.items }
+    ensures cells { AreCells stacks.now }
+{
+    // What the cells keep is what makes the order tell any two places apart.
+    let _cells = stacks.cells();
+    found.sort_unstable_by(|a, b| compare(stacks, *a, *b));
+}
+
+fn compare(stacks: &Stacks, a: Place, b: Place) -> Ordering
+    ensures { result ≡ place_cmp stacks.now a b }
+{
+    match a.at.cmp(&b.at) {
+        Ordering::Equal => stacks.compare(stack_of(stacks, a), stack_of(stacks, b)),
+        other => other,
+    }
+}
+
+// The place's stack, or the one without frames where there is no such stack.
+fn stack_of(stacks: &Stacks, place: Place) -> u32
+    ensures known { result ≤ length stacks.now }
+    ensures frames { frames_of stacks.now result ≡ frames_of stacks.now place.stack }
+{
+    if place.stack as usize <= stacks.cells().len() {
+        place.stack
+    } else {
+        0
+    }
+}
+
+fn finish(alloc: Global, image: &Image, entry: u32, search: Search) -> Result<Expanded, AllocError>
+    requires { IsSearchAt image.now entry search (length search.known.places.items) }
+    ensures accepted { IfOk result (λ expanded. (layers : List (List Configuration))
+        × IsAccepted (successors image.now entry) image.now entry layers
+        × (expanded.configurations ≡ all_of layers)) }
+    ensures graph { IfOk result (λ expanded.
+        IsGraphOf (successors image.now entry) entry expanded.configurations expanded.nodes) }
+{
+    let Search {
+        stacks,
+        known,
+        edges,
+    } = search;
+    let nodes = nodes_of(alloc, &known, &edges)?;
+    let graph = Graph::new(nodes).unwrap();
+    Ok(Expanded::new(graph, known.places, stacks))
+}
+
+fn nodes_of(alloc: Global, known: &Known, edges: &[Edges]) -> Result<Vec<Node>, AllocError>
+    requires numbers { AreNumbers known.now.places.items known.now.numbers }
+    requires each { length edges.now ≡ length known.now.places.items }
+    requires among { AreAmong known.now.places.items (flat_map places_of edges.now) }
+    ensures { IfOk result (λ nodes.
+        AreNodesFor known.now.places.items known.now.places.items edges.now nodes.items) }
+{
+    let mut nodes = Vec::with_capacity(alloc, edges.len())?;
+    for index in 0..edges.len() {
+        nodes.push(node_of(known, known.places[index], edges[index]))?;
+    }
+    Ok(nodes)
+}
+
+fn node_of(known: &Known, place: Place, edges: Edges) -> Node
+    requires numbers { AreNumbers known.now.places.items known.now.numbers }
+    requires among { AreAmong known.now.places.items (places_of edges) }
+    ensures { IsNodeFor known.now.places.items place edges result }
+{
+    Node {
+        at: place.at,
+        first: number_of(known, edges.first),
+        second: number_of(known, edges.second),
+    }
+}
+
+fn number_of(known: &Known, place: Option<Place>) -> Option<u32>
+    requires numbers { AreNumbers known.now.places.items known.now.numbers }
+    requires among { AreAmong known.now.places.items (option_to_list place) }
+    ensures { HasNumber known.now.places.items place result }
+{
+    known.number_of(place?)
+}
