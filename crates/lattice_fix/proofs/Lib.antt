@@ -1,0 +1,14 @@
+pub mod Joined
+pub mod Edges
+pub mod Steps
+pub mod Chains
+pub mod Later
+pub mod Carried
+pub mod Came
+pub mod Progress
+pub mod Filled
+pub mod Finished
+pub mod Budget
+pub mod Begun
+pub mod Paths
+pub mod Induction

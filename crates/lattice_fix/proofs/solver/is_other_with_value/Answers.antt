@@ -1,0 +1,15 @@
+use Rattle.std.proofs.Common.{rules, ◌≡◌, Option, Some, None, IsTrue, sym, ◌∙◌, refl, subst}
+use Rattle.std.specs.Option.{is_some}
+use Rattle.std.proofs.lemmas.List.{get_or_read}
+use Rattle.lattice_fix.proofs.solver.is_other_with_value.Goals as goal
+
+-- what tests as there is there
+there : {V : Type 0} (o : Option V) → IsTrue (is_some o) → (v : V) × (o ≡ Some v)
+there None some = absurd (search rules)
+there (Some v) some = (v, refl)
+
+pub returns-then-node-from : goal.returns-then-node-from
+returns-then-node-from g c = λ some.
+    let slot = get_or_read c.args.values.now c.args.node c.index-values-node.result c.requires c.index-values-node.is None in
+    let value = there c.index-values-node.result (subst IsTrue c.is_some.ensures some) in
+    (c.if-node-from.true, (value.0, sym slot ∙ value.1))
