@@ -1,8 +1,16 @@
 use cache_geom::Geometry;
 
-/// What `classify` is told.
+/// What the words of a command line ask for. An entry is the address in bytes at which the program is to begin; without
+/// it, that of the file's header.
 #[derive(Clone, Copy, Debug, PartialEq, Eq)]
-pub struct Settings {
-    /// The shape of the cache.
-    pub geometry: Geometry,
+pub enum Settings {
+    /// The report of a program in a cache of this shape.
+    Classify {
+        geometry: Geometry,
+        entry: Option<u32>,
+    },
+    /// The text of a program's graph.
+    Graph {
+        entry: Option<u32>,
+    },
 }

@@ -7,17 +7,18 @@
 //! on `verdict_report`.
 #![tactic(auto)]
 
-ghost use Rattle.std.specs.Prelude.{◌≡◌, ◌<◌, ◌++◌, [], length, IsTrue, OnOk, OnErr};
+ghost use Rattle.std.specs.Prelude.{◌≡◌, ◌<◌, ◌++◌, [], length, IsTrue, IsOk, OnOk, OnErr};
 ghost use Rattle.std.specs.List.{list_all};
 ghost use Rattle.std.specs.Io.KnownBytes.{Appends};
 ghost use Rattle.byte_port.specs.Stream.{SendsPrefix};
+ghost use Rattle.report_spec.specs.Graph.{graph_line_text};
 ghost use Rattle.report_spec.specs.Text.{line_text, text_of};
 ghost use Rattle.report_spec.specs.Valid.{is_valid};
 ghost use Rattle.line_sender.specs.Pending.{Pending, CountsSend, CountsSendRefusals};
 
 use byte_port::{Sink, SinkFault, send_all};
 use std::alloc::{AllocError, Global};
-use verdict_report::{Line, write_line};
+use verdict_report::{GraphLine, Line, write_graph_line, write_line};
 
 #[cfg(test)]
 mod tests;
@@ -73,6 +74,36 @@ pub fn send_line<O: Sink>(out: &mut O, buffer: &mut Vec<u8>, line: &Line) -> Res
     ensures refusals { CountsSendRefusals result (O.refusals out.old) (O.refusals out.new) }
 {
     write_line(line, buffer)?;
+    hand_on(out, buffer)
+}
+
+/// Adds the text of a line of the graph to what the buffer has, and hands the buffer on once it has a piece.
+/// After an error a front of that was sent, and the buffer is of no more use.
+pub fn send_graph_line<O: Sink>(
+    out: &mut O,
+    buffer: &mut Vec<u8>,
+    line: &GraphLine,
+) -> Result<(), SendStop>
+    ensures pending { OnOk result (Pending (O.sent out.old) (O.sent out.new) buffer.new.items (buffer.old.items ++ graph_line_text line.now)) }
+    ensures part { OnErr result (SendsPrefix (O.sent out.old) (O.sent out.new) (buffer.old.items ++ graph_line_text line.now)) }
+    ensures below_piece { OnOk result (length buffer.new.items < PIECE) }
+    ensures held { length (buffer.old.items ++ graph_line_text line.now) < PIECE → out.new ≡ out.old }
+    ensures faults { CountsSend result (O.faults out.old) (O.faults out.new) }
+    ensures refusals { CountsSendRefusals result (O.refusals out.old) (O.refusals out.new) }
+{
+    write_graph_line(line, buffer)?;
+    hand_on(out, buffer)
+}
+
+/// Hands the buffer on where it has a piece.
+fn hand_on<O: Sink>(out: &mut O, buffer: &mut Vec<u8>) -> Result<(), SendStop>
+    ensures pending { OnOk result (Pending (O.sent out.old) (O.sent out.new) buffer.new.items buffer.old.items) }
+    ensures part { OnErr result (SendsPrefix (O.sent out.old) (O.sent out.new) buffer.old.items) }
+    ensures below_piece { OnOk result (length buffer.new.items < PIECE) }
+    ensures held { length buffer.old.items < PIECE → (out.new ≡ out.old) × IsOk result }
+    ensures faults { CountsSend result (O.faults out.old) (O.faults out.new) }
+    ensures refusals { CountsSendRefusals result (O.refusals out.old) (O.refusals out.new) }
+{
     if buffer.len() < PIECE {
         return Ok(());
     }

@@ -31,7 +31,6 @@ elf_text (elf.SegmentOutside index) = segment_text index (codes " outside the fi
 elf_text (elf.SegmentWraps index) = segment_text index (codes " wraps")
 elf_text (elf.SegmentsOverlap index) = segment_text index (codes " overlaps")
 elf_text elf.NoText = codes "no executable segment"
-elf_text elf.FormNotBuilt = codes "file form not built yet"
 elf_text elf.OutOfMemory = codes "out of memory"
 
 -- a text with an address behind it

@@ -1,3 +1,4 @@
 pub mod Views
+pub mod Names
 pub mod Status
 pub mod FaultText

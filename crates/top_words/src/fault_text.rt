@@ -73,7 +73,6 @@ fn push_elf(text: &mut ShortText, fault: &ElfFault)
         ElfFault::SegmentWraps { index } => push_segment(text, *index, b" wraps"),
         ElfFault::SegmentsOverlap { index } => push_segment(text, *index, b" overlaps"),
         ElfFault::NoText => text.push(b"no executable segment"),
-        ElfFault::FormNotBuilt => text.push(b"file form not built yet"),
         ElfFault::OutOfMemory => text.push(b"out of memory"),
     }
 }

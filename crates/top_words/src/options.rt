@@ -1,16 +1,23 @@
 ghost use Rattle.std.specs.Prelude.{◌≡◌, ◌&&◌, bytes_eq, is_none, option_copied};
 ghost use Rattle.std.specs.List.{list_any};
 ghost use Rattle.command_spec.specs.Plain.{value_of, is_plain};
-ghost use Rattle.command_spec.specs.Settings.{classify_names};
+ghost use Rattle.top_words.specs.Names.{names_of};
 ghost use Rattle.top_words.specs.Views.{bytes_of};
 
-/// Whether the words after `classify` are in plain form: names and values in turn, no name twice.
-pub fn is_plain(words: &[String]) -> bool
-    ensures { result ≡ is_plain classify_names (bytes_of words.now) }
+/// The commands that have options.
+#[derive(Clone, Copy)]
+pub enum Command {
+    Classify,
+    Graph,
+}
+
+/// Whether the words after a command are in plain form: names and values in turn, no name twice.
+pub fn is_plain(command: Command, words: &[String]) -> bool
+    ensures { result ≡ is_plain (names_of command) (bytes_of words.now) }
 {
     let mut left = words;
     while let [name, _, later @ ..] = left {
-        if !is_new_name(name.as_str(), later) {
+        if !is_new_name(command, name.as_str(), later) {
             return false;
         }
         left = later;
@@ -19,16 +26,21 @@ pub fn is_plain(words: &[String]) -> bool
 }
 
 /// Whether a word is a name that doesn't come again later.
-fn is_new_name(word: &str, later: &[String]) -> bool
-    ensures { result ≡ (list_any (bytes_eq word.now) classify_names && is_none (value_of word.now (bytes_of later.now))) }
+fn is_new_name(command: Command, word: &str, later: &[String]) -> bool
+    ensures { result ≡ (list_any (bytes_eq word.now) (names_of command) && is_none (value_of word.now (bytes_of later.now))) }
 {
-    is_name(word) && value_of(later, word).is_none()
+    is_name(command, word) && value_of(later, word).is_none()
 }
 
-fn is_name(word: &str) -> bool
-    ensures { result ≡ list_any (bytes_eq word.now) classify_names }
+fn is_name(command: Command, word: &str) -> bool
+    ensures { result ≡ list_any (bytes_eq word.now) (names_of command) }
 {
-    word == "--line" || word == "--sets" || word == "--ways"
+    match command {
+        Command::Classify => {
+            word == "--line" || word == "--sets" || word == "--ways" || word == "--entry"
+        }
+        Command::Graph => word == "--entry",
+    }
 }
 
 /// The value behind a name.

@@ -1,33 +1,58 @@
 use crate::{Status, read_words, text_of};
 use byte_port::{ReadStop, SinkFault};
+use cache_geom::Geometry;
+use command_spec::Settings;
 use elf_spec::ElfFault;
 use flow_spec::FlowFault;
 use std::alloc::{AllocError, Global};
 use std::test::Fail;
 
-/// Line, sets and ways that the words of a line give.
-fn numbers_of(alloc: Global, line: &str) -> Result<Option<(u32, u32, u32)>, AllocError> {
+fn settings_of(alloc: Global, line: &str) -> Result<Option<Settings>, AllocError> {
     let mut words = Vec::new(alloc);
     for word in line.split_whitespace() {
         words.push(String::from_str(alloc, word)?)?;
     }
-    Ok(read_words(&words).map(|settings| {
-        let geometry = settings.geometry;
-        (geometry.line(), geometry.sets(), geometry.ways())
-    }))
+    Ok(read_words(&words))
+}
+
+/// The settings of `classify` with these line, sets and ways.
+fn classify(shape: (u32, u32, u32), entry: Option<u32>) -> Option<Settings> {
+    let (line, sets, ways) = shape;
+    let geometry = Geometry::new(line, sets, ways)?;
+    Some(Settings::Classify { geometry, entry })
 }
 
 #[test]
 fn options_have_defaults_and_stand_in_any_order(rt: HostRuntime) -> Result<(), Fail> {
-    for (line, numbers) in [
-        ("classify", (32, 64, 4)),
-        ("classify --line 16 --sets 1 --ways 1", (16, 1, 1)),
-        ("classify --ways 16 --line 256 --sets 4096", (256, 4096, 16)),
-        ("classify --sets 2", (32, 2, 4)),
-        ("classify --line 0016", (16, 64, 4)),
-        ("classify --line 0000000016", (16, 64, 4)),
+    for (line, shape, entry) in [
+        ("classify", (32, 64, 4), None),
+        ("classify --line 16 --sets 1 --ways 1", (16, 1, 1), None),
+        (
+            "classify --ways 16 --line 256 --sets 4096",
+            (256, 4096, 16),
+            None,
+        ),
+        ("classify --sets 2", (32, 2, 4), None),
+        ("classify --line 0016", (16, 64, 4), None),
+        ("classify --line 0000000016", (16, 64, 4), None),
+        ("classify --entry 0x10", (32, 64, 4), Some(0x10)),
+        (
+            "classify --entry 0xFFFFfff0 --ways 2",
+            (32, 64, 2),
+            Some(0xfffffff0),
+        ),
     ] {
-        assert_eq!(rt; numbers_of(rt.alloc(), line)?, Some(numbers), "at {line}");
+        let wanted = classify(shape, entry);
+        assert_eq!(rt; settings_of(rt.alloc(), line)?, wanted, "at {line}");
+    }
+    Ok(())
+}
+
+#[test]
+fn a_graph_may_have_an_entry(rt: HostRuntime) -> Result<(), Fail> {
+    for (line, entry) in [("graph", None), ("graph --entry 0x0001000a", Some(0x1000a))] {
+        let wanted = Some(Settings::Graph { entry });
+        assert_eq!(rt; settings_of(rt.alloc(), line)?, wanted, "at {line}");
     }
     Ok(())
 }
@@ -37,7 +62,8 @@ fn other_words_give_no_settings(rt: HostRuntime) -> Result<(), Fail> {
     for line in [
         "",
         "--help",
-        "graph",
+        "graph --line 16",
+        "graph 0x10000",
         "--line 16 classify",
         "classify --ways 0",
         "classify --ways 17",
@@ -54,8 +80,13 @@ fn other_words_give_no_settings(rt: HostRuntime) -> Result<(), Fail> {
         "classify --line 00000000016",
         "classify --lines 16",
         "classify --workers 2",
+        "classify --entry 65536",
+        "classify --entry 0X10000",
+        "classify --entry 0x",
+        "classify --entry 0x000010000",
+        "classify --entry 0x1000g",
     ] {
-        assert_eq!(rt; numbers_of(rt.alloc(), line)?, None, "at {line}");
+        assert_eq!(rt; settings_of(rt.alloc(), line)?, None, "at {line}");
     }
     Ok(())
 }
@@ -130,7 +161,6 @@ fn a_file_that_is_not_read_has_code_6_and_its_reason(rt: HostRuntime) {
             "icache: segment 63 overlaps\n",
         ),
         (ElfFault::NoText, "icache: no executable segment\n"),
-        (ElfFault::FormNotBuilt, "icache: file form not built yet\n"),
     ] {
         let status = Status::from(fault);
         assert_eq!(rt; status.code(), 6, "at {text}");

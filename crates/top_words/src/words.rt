@@ -1,9 +1,9 @@
 ghost use Rattle.std.specs.Prelude.{◌≡◌, codes};
-ghost use Rattle.command_spec.specs.Settings.{settings_of, geometry_in, geometry_of, number_at};
+ghost use Rattle.command_spec.specs.Settings.{settings_of, classify_settings, graph_settings, geometry_in, geometry_of, number_at, entry_in};
 ghost use Rattle.top_words.specs.Views.{bytes_of};
 
-use crate::number::number_of;
-use crate::options::{is_plain, value_of};
+use crate::number::{address_of, number_of};
+use crate::options::{Command, is_plain, value_of};
 use cache_geom::Geometry;
 use command_spec::Settings;
 
@@ -14,11 +14,42 @@ pub fn read_words(words: &[String]) -> Option<Settings>
     ensures { result ≡ settings_of (bytes_of words.now) }
 {
     let (command, options) = words.split_first()?;
-    if command.as_str() != "classify" || !is_plain(options) {
+    match command.as_str() {
+        "classify" => classify_settings(options),
+        "graph" => graph_settings(options),
+        _ => None,
+    }
+}
+
+fn classify_settings(words: &[String]) -> Option<Settings>
+    ensures { result ≡ classify_settings (bytes_of words.now) }
+{
+    if !is_plain(Command::Classify, words) {
         return None;
     }
-    let geometry = geometry_in(options)?;
-    Some(Settings { geometry })
+    let geometry = geometry_in(words)?;
+    let entry = entry_in(words)?;
+    Some(Settings::Classify { geometry, entry })
+}
+
+fn graph_settings(words: &[String]) -> Option<Settings>
+    ensures { result ≡ graph_settings (bytes_of words.now) }
+{
+    if !is_plain(Command::Graph, words) {
+        return None;
+    }
+    let entry = entry_in(words)?;
+    Some(Settings::Graph { entry })
+}
+
+/// The entry that the words give, if they give one. None where its text spells no address.
+fn entry_in(words: &[String]) -> Option<Option<u32>>
+    ensures { result ≡ entry_in (bytes_of words.now) }
+{
+    match value_of(words, "--entry") {
+        None => Some(None),
+        Some(text) => Some(Some(address_of(text)?)),
+    }
 }
 
 fn geometry_in(words: &[String]) -> Option<Geometry>

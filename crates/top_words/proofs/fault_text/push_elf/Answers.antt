@@ -31,7 +31,3 @@ returns-in-SegmentOutside-clause-text c = rw c.in-SegmentOutside.is c.push_segme
 pub returns-in-NoText-clause-text : goal.returns-in-NoText-clause-text
 unfolding elf_text
 returns-in-NoText-clause-text c = rw c.in-NoText.is c.push-in-NoText.ensures.text
-
-pub returns-in-FormNotBuilt-clause-text : goal.returns-in-FormNotBuilt-clause-text
-unfolding elf_text
-returns-in-FormNotBuilt-clause-text c = rw c.in-FormNotBuilt.is c.push-in-FormNotBuilt.ensures.text
