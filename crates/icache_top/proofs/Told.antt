@@ -1,93 +1,119 @@
 -- What a status says of the file that was read.
-use Rattle.std.proofs.Common.{◌≡◌, ◌⊎◌, ℕ, List, refl, sym, subst, inl, inr}
-use Rattle.std.specs.Prelude.{Bool, Option, Ok, Err, Result, IsErrAnd}
+use Rattle.std.proofs.Common.{◌≡◌, ◌⊎◌, ℕ, List, refl, sym, ap, subst, ◌∙◌, inl, inr}
+use Rattle.std.specs.Prelude.{false, Option, Ok, Err, Result, IsErrAnd, OnOk, OnErr}
+use Rattle.std.specs.Io.KnownBytes.{Appends, Keeps}
 use Rattle.std.proofs.KnownBytes.{Keeps-refl}
+use Rattle.byte_port.specs.Stream.{SendsPrefix}
 use Rattle.elf_spec.specs.Image.{Image, image_of}
-use Rattle.elf_spec.specs.Wrapped.{IsWrapped, wrapped_image, words_in}
-use Rattle.cache_spec.specs.Geometry.{Geometry}
+use Rattle.elf_spec.specs.declared.fault.ElfFault.{ElfFault}
+use Rattle.elf_spec.specs.declared.fault.ElfFault.TheVariants as elf
 use Rattle.flow_spec.specs.declared.fault.FlowFault.{FlowFault}
 use Rattle.flow_spec.specs.declared.fault.FlowFault.TheVariants as flow
-use Rattle.flow_spec.specs.Straight.{built_successors}
-use Rattle.flow_spec.specs.Acceptance.{IsRefused}
-use Rattle.report_spec.specs.Text.{text_of}
-use Rattle.straight_walk.specs.Straight.{IsOneBlock, IsReportedBy, lines_of}
-use Rattle.straight_walk.proofs.Wrapped.{one_block}
+use Rattle.flow_spec.specs.Acceptance.{Step, IsRefused}
+use Rattle.command_spec.specs.declared.settings.Settings.{Settings}
+use Rattle.line_sender.specs.declared.SendStop.{SendStop}
+use Rattle.line_sender.specs.declared.SendStop.TheVariants as stops
 use Rattle.top_words.specs.declared.status.Status.{Status}
 use Rattle.top_words.specs.declared.status.Status.TheVariants.{Done, Usage, OutOfMemory, ReadFault, WriteFault, FileTooBig, Elf, Flow, TooManyBlocks}
-use Rattle.top_words.specs.Status.{of_flow}
-use Rattle.icache_top.specs.Answer.{IsImageOf, SendsText, IsReportOf, Tells, status_of}
+use Rattle.top_words.specs.Status.{of_elf, of_flow}
+use Rattle.icache_top.specs.Answer.{ToldOf, Tells, IsAnswerOf, IsProgramText, IsTextFrom, HasFlowFault, entry_of, step_of, sent_as, status_of}
 
--- a file that was read and walked: its one block of words, and the report that its hits make
-pub record IsWalked (file : List ℕ) (image : Image) (g : Geometry) (hits : List Bool) : Type 0 where
-  pub is_image : IsImageOf file image
-  pub count : ℕ
-  pub block : IsOneBlock image count
-  pub reported : IsReportedBy image g count hits
-
-pub walked : (file : List ℕ) (image : Image) (g g' : Geometry) (hits hits' : List Bool) → image_of file ≡ Ok image
-    → IsWrapped file × (image ≡ wrapped_image file) → g' ≡ g → hits' ≡ hits
-    → ((n : ℕ) → IsOneBlock image n → IsReportedBy image g' n hits) → IsWalked file image g hits'
-walked file image g g' hits hits' image_is form same_geometry same_hits reported =
-    let block = one_block file image form.0 form.1 in
-    let Shape : Geometry → Type 0 = λ g. IsReportedBy image g (words_in file) hits in
-    let Hits : List Bool → Type 0 = λ hits. IsReportedBy image g (words_in file) hits in
-    record {
-      is_image = record { wrapped = form.0; image_is = image_is };
-      count = words_in file;
-      block = block;
-      reported = subst Hits (sym same_hits) (subst Shape same_geometry (reported (words_in file) block));
-    }
-
--- the lines that are sent are a report of the file
-report_of : (file : List ℕ) (image : Image) (g : Geometry) (hits : List Bool) (walk : IsWalked file image g hits)
-    → IsReportOf g file (text_of (lines_of image.entry walk.count hits))
-report_of file image g hits walk = record {
-  image = image;
-  is_image = walk.is_image;
-  layers = walk.reported.layers;
-  accepted = walk.reported.accepted;
-  report = (lines_of image.entry walk.count hits, refl, walk.reported.lines);
-}
-
--- what the sink got of those lines
-pub text_told : (status : Status) (file : List ℕ) (image : Image) (g : Geometry) (hits : List Bool) (walk : IsWalked file image g hits)
-    (old new : Option (List ℕ)) → SendsText status old new (text_of (lines_of image.entry walk.count hits)) → Tells g file status old new
-text_told Done file image g hits walk old new sent = (_, report_of file image g hits walk, sent)
-text_told WriteFault file image g hits walk old new sent = (_, report_of file image g hits walk, sent)
-text_told OutOfMemory file image g hits walk old new sent = inr (_, report_of file image g hits walk, sent)
-text_told Usage file image g hits walk old new sent = absurd sent
-text_told ReadFault file image g hits walk old new sent = absurd sent
-text_told FileTooBig file image g hits walk old new sent = absurd sent
-text_told (Elf fault) file image g hits walk old new sent = absurd sent
-text_told (Flow fault) file image g hits walk old new sent = absurd sent
-text_told (TooManyBlocks set count) file image g hits walk old new sent = absurd sent
-
--- a fault of the walk, as a status
-abbrev Refuses : Image → FlowFault → Type 0
-Refuses image fault = (fault ≡ flow.OutOfMemory) ⊎ IsRefused (built_successors image image.entry) image image.entry fault
-
-refused_of : (image : Image) (fault : FlowFault) → (fault ≡ flow.OutOfMemory → ⊥) → Refuses image fault
-    → IsRefused (built_successors image image.entry) image image.entry fault
-refused_of image fault other (inl memory) = absurd (other memory)
-refused_of image fault other (inr refused) = refused
-
-fault_told : (g : Geometry) (file : List ℕ) (image : Image) (s : Option (List ℕ)) (fault : FlowFault) → IsImageOf file image
-    → Refuses image fault → Tells g file (of_flow fault) s s
-fault_told g file image s flow.OutOfMemory is refuses = inl (Keeps-refl s)
-fault_told g file image s (flow.BadEntry entry) is refuses = (record { image = image; is_image = is; refused = refused_of image _ (λ e. cc) refuses }, Keeps-refl s)
-fault_told g file image s (flow.Illegal at word) is refuses = (record { image = image; is_image = is; refused = refused_of image _ (λ e. cc) refuses }, Keeps-refl s)
-fault_told g file image s (flow.ComputedJump at) is refuses = (record { image = image; is_image = is; refused = refused_of image _ (λ e. cc) refuses }, Keeps-refl s)
-fault_told g file image s (flow.BadTarget at target) is refuses = (record { image = image; is_image = is; refused = refused_of image _ (λ e. cc) refuses }, Keeps-refl s)
-fault_told g file image s (flow.Recursion at) is refuses = (record { image = image; is_image = is; refused = refused_of image _ (λ e. cc) refuses }, Keeps-refl s)
-fault_told g file image s (flow.TooManyFetches limit) is refuses = (record { image = image; is_image = is; refused = refused_of image _ (λ e. cc) refuses }, Keeps-refl s)
-fault_told g file image s (flow.NotBuilt at) is refuses = (record { image = image; is_image = is; refused = refused_of image _ (λ e. cc) refuses }, Keeps-refl s)
+-- a wanted text was sent
+pub sent_told : (Refused : FlowFault → Type 0) (IsWanted : List ℕ → Type 0) (old new : Option (List ℕ)) (text : List ℕ)
+    → (sending : Result (Unit {0}) SendStop) → (r : Result (Unit {0}) Status) → IsWanted text → r ≡ sent_as sending
+    → OnOk sending (Appends old new text) → OnErr sending (SendsPrefix old new text) → ToldOf Refused IsWanted (status_of r) old new
+sent_told Refused IsWanted old new text (Ok done) r wanted is whole part =
+    let P : Result (Unit {0}) Status → Type 0 = λ r. ToldOf Refused IsWanted (status_of r) old new in
+    subst P (sym is) (text, wanted, whole)
+sent_told Refused IsWanted old new text (Err stops.Failed) r wanted is whole part =
+    let P : Result (Unit {0}) Status → Type 0 = λ r. ToldOf Refused IsWanted (status_of r) old new in
+    subst P (sym is) (text, wanted, part)
+sent_told Refused IsWanted old new text (Err stops.OutOfMemory) r wanted is whole part =
+    let P : Result (Unit {0}) Status → Type 0 = λ r. ToldOf Refused IsWanted (status_of r) old new in
+    subst P (sym is) (inr (text, wanted, part))
 
 status_is : (r : Result (Unit {0}) Status) (status : Status) → IsErrAnd r (λ s. s ≡ status) → status_of r ≡ status
 status_is (Ok done) status h = absurd h
 status_is (Err s) status h = h
 
-pub flow_told : (g : Geometry) (file : List ℕ) (image : Image) (s : Option (List ℕ)) (fault : FlowFault) (r : Result (Unit {0}) Status)
-    → IsImageOf file image → Refuses image fault → IsErrAnd r (λ s. s ≡ of_flow fault) → Tells g file (status_of r) s s
-flow_told g file image s fault r is refuses gives =
-    let P : Status → Type 0 = λ status. Tells g file status s s in
-    subst P (sym (status_is r (of_flow fault) gives)) (fault_told g file image s fault is refuses)
+-- a fault of the program, as a status
+
+refused_of : (Refused : FlowFault → Type 0) (fault : FlowFault) → (fault ≡ flow.OutOfMemory → ⊥) → (fault ≡ flow.OutOfMemory) ⊎ Refused fault
+    → Refused fault
+refused_of Refused fault other (inl memory) = absurd (other memory)
+refused_of Refused fault other (inr refused) = refused
+
+module _ (Refused : FlowFault → Type 0) (IsWanted : List ℕ → Type 0) (s : Option (List ℕ)) where
+  fault_told : (fault : FlowFault) → (fault ≡ flow.OutOfMemory) ⊎ Refused fault → ToldOf Refused IsWanted (of_flow fault) s s
+  fault_told flow.OutOfMemory refuses = inl (Keeps-refl s)
+  fault_told (flow.BadEntry entry) refuses = (refused_of Refused _ (λ e. cc) refuses, Keeps-refl s)
+  fault_told (flow.Illegal at word) refuses = (refused_of Refused _ (λ e. cc) refuses, Keeps-refl s)
+  fault_told (flow.ComputedJump at) refuses = (refused_of Refused _ (λ e. cc) refuses, Keeps-refl s)
+  fault_told (flow.BadTarget at target) refuses = (refused_of Refused _ (λ e. cc) refuses, Keeps-refl s)
+  fault_told (flow.Recursion at) refuses = (refused_of Refused _ (λ e. cc) refuses, Keeps-refl s)
+  fault_told (flow.TooManyFetches limit) refuses = (refused_of Refused _ (λ e. cc) refuses, Keeps-refl s)
+  fault_told (flow.NotBuilt at) refuses = (refused_of Refused _ (λ e. cc) refuses, Keeps-refl s)
+
+  pub flow_told : (fault : FlowFault) (r : Result (Unit {0}) Status) → (fault ≡ flow.OutOfMemory) ⊎ Refused fault
+      → IsErrAnd r (λ s. s ≡ of_flow fault) → ToldOf Refused IsWanted (status_of r) s s
+  flow_told fault r refuses gives =
+      let P : Status → Type 0 = λ status. ToldOf Refused IsWanted status s s in
+      subst P (sym (status_is r (of_flow fault) gives)) (fault_told fault refuses)
+
+-- a fault of the file, as a status
+
+fault_of : (file : List ℕ) (fault : ElfFault) → (fault ≡ elf.OutOfMemory → ⊥) → (image_of file ≡ Err fault) ⊎ (fault ≡ elf.OutOfMemory)
+    → image_of file ≡ Err fault
+fault_of file fault other (inl is) = is
+fault_of file fault other (inr memory) = absurd (other memory)
+
+file_told : (settings : Settings) (file : List ℕ) (s : Option (List ℕ)) (fault : ElfFault) → (image_of file ≡ Err fault) ⊎ (fault ≡ elf.OutOfMemory)
+    → Tells settings file (of_elf fault) s s
+file_told settings file s elf.OutOfMemory fails = inl (Keeps-refl s)
+file_told settings file s (elf.Truncated need have) fails = (fault_of file _ (λ e. cc) fails, Keeps-refl s)
+file_told settings file s elf.NotElf fails = (fault_of file _ (λ e. cc) fails, Keeps-refl s)
+file_told settings file s elf.NotClass32 fails = (fault_of file _ (λ e. cc) fails, Keeps-refl s)
+file_told settings file s elf.NotLittle fails = (fault_of file _ (λ e. cc) fails, Keeps-refl s)
+file_told settings file s elf.BadVersion fails = (fault_of file _ (λ e. cc) fails, Keeps-refl s)
+file_told settings file s (elf.NotExecutable kind) fails = (fault_of file _ (λ e. cc) fails, Keeps-refl s)
+file_told settings file s (elf.NotRiscv machine) fails = (fault_of file _ (λ e. cc) fails, Keeps-refl s)
+file_told settings file s (elf.BadEntrySize size) fails = (fault_of file _ (λ e. cc) fails, Keeps-refl s)
+file_told settings file s (elf.TooManySegments count) fails = (fault_of file _ (λ e. cc) fails, Keeps-refl s)
+file_told settings file s (elf.SegmentOutside index) fails = (fault_of file _ (λ e. cc) fails, Keeps-refl s)
+file_told settings file s (elf.SegmentWraps index) fails = (fault_of file _ (λ e. cc) fails, Keeps-refl s)
+file_told settings file s (elf.SegmentsOverlap index) fails = (fault_of file _ (λ e. cc) fails, Keeps-refl s)
+file_told settings file s elf.NoText fails = (fault_of file _ (λ e. cc) fails, Keeps-refl s)
+
+pub elf_told : (settings : Settings) (file : List ℕ) (s : Option (List ℕ)) (fault : ElfFault) (r : Result (Unit {0}) Status)
+    → (image_of file ≡ Err fault) ⊎ (fault ≡ elf.OutOfMemory) → IsErrAnd r (λ s. s ≡ of_elf fault) → Tells settings file (status_of r) s s
+elf_told settings file s fault r fails gives =
+    let P : Status → Type 0 = λ status. Tells settings file status s s in
+    subst P (sym (status_is r (of_elf fault) gives)) (file_told settings file s fault fails)
+
+at_entry : (settings : Settings) (file : List ℕ) (image : Image) (status : Status) (old new : Option (List ℕ)) → image_of file ≡ Ok image
+    → ToldOf (IsRefused (step_of settings image (entry_of settings image)) image (entry_of settings image))
+    (IsProgramText (step_of settings image (entry_of settings image)) image (entry_of settings image) (IsTextFrom settings image (entry_of settings image)))
+    status old new
+    → Tells settings file status old new
+at_entry settings file image Done old new is (text, wanted, sent) = (text, record { image = image; is_image = is; text_is = wanted }, sent)
+at_entry settings file image WriteFault old new is (text, wanted, sent) = (text, record { image = image; is_image = is; text_is = wanted }, sent)
+at_entry settings file image OutOfMemory old new is (inl kept) = inl kept
+at_entry settings file image OutOfMemory old new is (inr (text, wanted, sent)) =
+    inr (text, record { image = image; is_image = is; text_is = wanted }, sent)
+at_entry settings file image (Flow fault) old new is (refused, kept) = (record { image = image; is_image = is; refused = refused }, kept)
+at_entry settings file image Usage old new is told = absurd told
+at_entry settings file image ReadFault old new is told = absurd told
+at_entry settings file image FileTooBig old new is told = absurd told
+at_entry settings file image (Elf fault) old new is told = absurd told
+at_entry settings file image (TooManyBlocks set count) old new is told = absurd told
+
+-- what a status says of the program of a file
+pub program_told : (settings : Settings) (file : List ℕ) (image : Image) (entry : ℕ) (status : Status) (old new : Option (List ℕ))
+    → image_of file ≡ Ok image → entry ≡ entry_of settings image
+    → ToldOf (IsRefused (step_of settings image entry) image entry)
+    (IsProgramText (step_of settings image entry) image entry (IsTextFrom settings image entry)) status old new
+    → Tells settings file status old new
+program_told settings file image entry status old new is same told =
+    let Told : ℕ → Type 0 = λ entry. ToldOf (IsRefused (step_of settings image entry) image entry)
+    (IsProgramText (step_of settings image entry) image entry (IsTextFrom settings image entry)) status old new in
+    at_entry settings file image status old new is (subst Told same told)

@@ -1,21 +1,23 @@
 -- What a run answers: for each status, what it says of the words, of the bytes that the source had, and of the bytes
 -- that the sink got. This project's own statuses; their order is that in which the causes are met.
-use Rattle.std.specs.Prelude.{◌≡◌, ◌⊎◌, ℕ, ◌+◌, false, List, Option, Some, Result, Ok, Err, ◌<◌, ◌≤◌, length}
+use Rattle.std.specs.Prelude.{◌≡◌, ◌⊎◌, ℕ, ◌+◌, false, List, Option, Some, Result, Ok, Err, ◌<◌, ◌≤◌, length, unwrap_or}
 use Rattle.std.specs.Io.KnownBytes.{Appends, Keeps, Consumes, IsAtEnd}
 use Rattle.byte_port.specs.Count.{Rose}
 use Rattle.byte_port.specs.Stream.{SendsPrefix, Takes}
 use Rattle.elf_spec.specs.Image.{Image, image_of}
-use Rattle.elf_spec.specs.Wrapped.{IsWrapped}
 use Rattle.elf_spec.specs.declared.fault.ElfFault.{ElfFault}
-use Rattle.elf_spec.specs.declared.fault.ElfFault.TheVariants as elf
 use Rattle.flow_spec.specs.declared.fault.FlowFault.{FlowFault}
 use Rattle.flow_spec.specs.Configuration.{Configuration}
 use Rattle.flow_spec.specs.Acceptance.{Step, IsAccepted, IsRefused}
+use Rattle.flow_spec.specs.Successors.{successors}
 use Rattle.flow_spec.specs.Straight.{built_successors}
-use Rattle.cache_spec.specs.Geometry.{Geometry}
 use Rattle.report_spec.specs.Report.{IsReport}
+use Rattle.report_spec.specs.Graph.{IsGraphText}
 use Rattle.command_spec.specs.declared.settings.Settings.{Settings}
+use Rattle.command_spec.specs.declared.settings.Settings.TheVariants.{Classify, Graph}
 use Rattle.command_spec.specs.Settings.{settings_of}
+use Rattle.line_sender.specs.declared.SendStop.{SendStop}
+use Rattle.line_sender.specs.declared.SendStop.TheVariants as stops
 use Rattle.top_words.specs.declared.status.Status.{Status}
 use Rattle.top_words.specs.declared.status.Status.TheVariants.{Done, Usage, OutOfMemory, ReadFault, WriteFault, FileTooBig, Elf, Flow, TooManyBlocks}
 
@@ -27,63 +29,69 @@ file_limit = 16777216
 abbrev pub Reads : Option (List ℕ) → Option (List ℕ) → List ℕ → Type 0
 Reads left now file = Consumes left now file × IsAtEnd now × (length file ≤ file_limit)
 
--- the file is of the one form that is read today, and this is its image
-pub record IsImageOf (file : List ℕ) (image : Image) : Type 0 where
-  pub wrapped : IsWrapped file
-  pub image_is : image_of file ≡ Ok image
+-- where the words say that the program begins, if they say so
+abbrev pub entry_in : Settings → Option ℕ
+entry_in (Classify geometry entry) = entry
+entry_in (Graph entry) = entry
 
--- the steps of the words that are followed today, from the image's own entry
-abbrev pub step_of : Image → Step
-step_of image = built_successors image image.entry
+-- where the program begins: as the words say, or else as the file says
+abbrev pub entry_of : Settings → Image → ℕ
+entry_of settings image = unwrap_or (entry_in settings) image.entry
 
--- the program of the file is accepted, and the text is its report at a geometry
-pub record IsReportOf (g : Geometry) (file text : List ℕ) : Type 0 where
-  pub image : Image
-  pub is_image : IsImageOf file image
+-- the steps of a program: `classify` follows only some words today
+abbrev pub step_of : Settings → Image → ℕ → Step
+step_of (Classify geometry entry) = built_successors
+step_of (Graph entry) = successors
+
+-- the text that the settings ask for: a report, or the text of the graph
+abbrev pub IsTextFrom : Settings → Image → ℕ → List ℕ → Type 0
+IsTextFrom (Classify geometry words_entry) image entry text = IsReport image entry geometry false text
+IsTextFrom (Graph words_entry) image entry text = IsGraphText image entry text
+
+-- the program is accepted, and the text is one that is wanted of it
+pub record IsProgramText (step : Step) (image : Image) (entry : ℕ) (IsWanted : List ℕ → Type 0) (text : List ℕ) : Type 0 where
   pub layers : List (List Configuration)
-  pub accepted : IsAccepted (step_of image) image image.entry layers
-  pub report : IsReport image image.entry g false text
+  pub accepted : IsAccepted step image entry layers
+  pub wanted : IsWanted text
 
--- the file isn't read as an executable, and this is why
+-- the file is read, and the text is what the settings ask for of its program
+pub record IsAnswerOf (settings : Settings) (file text : List ℕ) : Type 0 where
+  pub image : Image
+  pub is_image : image_of file ≡ Ok image
+  pub text_is : IsProgramText (step_of settings image (entry_of settings image)) image (entry_of settings image) (IsTextFrom settings image (entry_of settings image)) text
+
+-- the file isn't read as an executable, and this is why: the answer of the first test that fails
 abbrev pub HasElfFault : List ℕ → ElfFault → Type 0
-HasElfFault file fault = (fault ≡ elf.FormNotBuilt) × (IsWrapped file → ⊥)
+HasElfFault file fault = image_of file ≡ Err fault
 
 -- the program of the file isn't accepted, and this is why
-pub record HasFlowFault (file : List ℕ) (fault : FlowFault) : Type 0 where
+pub record HasFlowFault (settings : Settings) (file : List ℕ) (fault : FlowFault) : Type 0 where
   pub image : Image
-  pub is_image : IsImageOf file image
-  pub refused : IsRefused (step_of image) image image.entry fault
+  pub is_image : image_of file ≡ Ok image
+  pub refused : IsRefused (step_of settings image (entry_of settings image)) image (entry_of settings image) fault
 
--- what the sink got of a text that was to be sent whole
-abbrev pub SendsText : Status → Option (List ℕ) → Option (List ℕ) → List ℕ → Type 0
-SendsText Done old new text = Appends old new text
-SendsText WriteFault old new text = SendsPrefix old new text
-SendsText OutOfMemory old new text = SendsPrefix old new text
-SendsText Usage old new text = ⊥
-SendsText ReadFault old new text = ⊥
-SendsText FileTooBig old new text = ⊥
-SendsText (Elf fault) old new text = ⊥
-SendsText (Flow fault) old new text = ⊥
-SendsText (TooManyBlocks set count) old new text = ⊥
+-- what a status says of a program that is refused with a fault, or of which a text is wanted, and of what the sink got
+abbrev pub ToldOf : (FlowFault → Type 0) → (List ℕ → Type 0) → Status → Option (List ℕ) → Option (List ℕ) → Type 0
+ToldOf Refused IsWanted Done old new = (text : List ℕ) × IsWanted text × Appends old new text
+ToldOf Refused IsWanted WriteFault old new = (text : List ℕ) × IsWanted text × SendsPrefix old new text
+ToldOf Refused IsWanted OutOfMemory old new = Keeps old new ⊎ ((text : List ℕ) × IsWanted text × SendsPrefix old new text)
+ToldOf Refused IsWanted (Flow fault) old new = Refused fault × Keeps old new
+ToldOf Refused IsWanted Usage old new = ⊥
+ToldOf Refused IsWanted ReadFault old new = ⊥
+ToldOf Refused IsWanted FileTooBig old new = ⊥
+ToldOf Refused IsWanted (Elf fault) old new = ⊥
+ToldOf Refused IsWanted (TooManyBlocks set count) old new = ⊥
 
 -- what a status says of the file that was read, and of what the sink got
-abbrev pub Tells : Geometry → List ℕ → Status → Option (List ℕ) → Option (List ℕ) → Type 0
-Tells g file Done old new = (text : List ℕ) × IsReportOf g file text × Appends old new text
-Tells g file WriteFault old new = (text : List ℕ) × IsReportOf g file text × SendsPrefix old new text
-Tells g file (Elf fault) old new = HasElfFault file fault × Keeps old new
-Tells g file (Flow fault) old new = HasFlowFault file fault × Keeps old new
-Tells g file OutOfMemory old new =
-    Keeps old new ⊎ ((text : List ℕ) × IsReportOf g file text × SendsPrefix old new text)
-Tells g file Usage old new = ⊥
-Tells g file ReadFault old new = ⊥
-Tells g file FileTooBig old new = ⊥
-Tells g file (TooManyBlocks set count) old new = ⊥
+abbrev pub Tells : Settings → List ℕ → Status → Option (List ℕ) → Option (List ℕ) → Type 0
+Tells settings file (Elf fault) old new = HasElfFault file fault × Keeps old new
+Tells settings file status old new = ToldOf (HasFlowFault settings file) (IsAnswerOf settings file) status old new
 
 -- the words give settings, the whole file was read, and the status says this of it
 abbrev pub Read : List (List ℕ) → Status → Option (List ℕ) → Option (List ℕ) → Option (List ℕ) → Option (List ℕ) → Type 0
 Read words status left now old new =
     (settings : Settings) × (settings_of words ≡ Some settings)
-    × ((file : List ℕ) × Reads left now file × Tells settings.geometry file status old new)
+    × ((file : List ℕ) × Reads left now file × Tells settings file status old new)
 
 -- what a run answers, of the bytes left in the source before and after, and of those sent to the sink before and after
 abbrev pub Answers : List (List ℕ) → Status → Option (List ℕ) → Option (List ℕ) → Option (List ℕ) → Option (List ℕ) → Type 0
@@ -100,7 +108,7 @@ Answers words (TooManyBlocks set count) left now old new = ⊥
 -- the words give settings, the file is within the limit, and the status says this of it
 abbrev pub Judges : List (List ℕ) → List ℕ → Status → Option (List ℕ) → Option (List ℕ) → Type 0
 Judges words file status old new =
-    (settings : Settings) × (settings_of words ≡ Some settings) × (length file ≤ file_limit) × Tells settings.geometry file status old new
+    (settings : Settings) × (settings_of words ≡ Some settings) × (length file ≤ file_limit) × Tells settings file status old new
 
 -- what a status says of a source that told its bytes at the start
 abbrev pub SaysOf : List (List ℕ) → List ℕ → Status → Option (List ℕ) → Option (List ℕ) → Type 0
@@ -121,6 +129,12 @@ Decides words file Usage old new = ⊥
 Decides words file ReadFault old new = ⊥
 Decides words file WriteFault old new = ⊥
 Decides words file status old new = SaysOf words file status old new
+
+-- the end of a sending, as a status
+abbrev pub sent_as : Result (Unit {0}) SendStop → Result (Unit {0}) Status
+sent_as (Ok done) = Ok done
+sent_as (Err stops.Failed) = Err WriteFault
+sent_as (Err stops.OutOfMemory) = Err OutOfMemory
 
 abbrev pub status_of : Result (Unit {0}) Status → Status
 status_of (Ok done) = Done

@@ -1,70 +1,83 @@
-ghost use Rattle.std.specs.Prelude.{◌≡◌, ◌+◌, ◌*◌, ◌^◌, ◌<◌, ◌≤◌, ◌++◌, [], length, OnOk, OnErr};
+// The report of a straight program, line by line.
+ghost use Rattle.std.specs.Prelude.{◌≡◌, ℕ, ◌+◌, ◌*◌, ◌^◌, ◌≤◌, ◌∷◌, IsTrue, IfOk, OnOk, OnErr};
 ghost use Rattle.std.specs.Io.KnownBytes.{Appends};
+ghost use Rattle.elf_spec.specs.Word.{IsText, IsNextText};
 ghost use Rattle.byte_port.specs.Stream.{SendsPrefix};
 ghost use Rattle.line_sender.specs.Pending.{Pending, CountsSend};
-ghost use Rattle.report_spec.specs.Text.{line_text, text_of};
-ghost use Rattle.straight_walk.specs.Straight.{lines_of, fetched_lines, rest_lines, verdict_of};
+ghost use Rattle.report_spec.specs.Text.{text_of};
+ghost use Rattle.report_spec.specs.Valid.{is_valid};
+ghost use Rattle.straight_walk.specs.Straight.{said_by, verdict_of};
+ghost use Rattle.text_lines.specs.Lines.{IsWithin, lines_from, lines_of};
+ghost use Rattle.icache_top.specs.Lines.{IsLineAt, SendsLine, SendsLineOf, last_of};
 
 use byte_port::Sink;
+use elf_image::Image;
 use line_sender::{PIECE, SendStop, finish, send_line};
 use std::alloc::Global;
+use straight_walk::Walked;
+use text_lines::range_end;
 use verdict_report::{Line, Verdict};
 
-/// Sends the report of a straight program of `count` words: a line for each fetch from the entry on, and a range for
-/// the words behind the stop. After an error the sink has a front of it.
+/// Sends the report of a straight program: a line for each fetch of its walk, and ranges for the other words of its text.
+/// After an error the sink has a front of it.
 pub fn send_report<O: Sink>(
     alloc: Global,
     out: &mut O,
-    entry: u32,
-    count: u32,
-    hits: &[bool],
+    image: &Image,
+    walked: &Walked,
 ) -> Result<(), SendStop>
-    requires room { entry + 4 * count < 2 ^ 32 }
-    requires few { length hits.now ≤ count }
-    ensures whole { OnOk result (Appends (O.sent out.old) (O.sent out.new) (text_of (lines_of entry count hits.now))) }
-    ensures part { OnErr result (SendsPrefix (O.sent out.old) (O.sent out.new) (text_of (lines_of entry count hits.now))) }
+    requires { IsWithin image.now }
+    ensures whole { OnOk result (Appends (O.sent out.old) (O.sent out.new) (text_of (lines_of image.now (said_by walked.now)))) }
+    ensures part { OnErr result (SendsPrefix (O.sent out.old) (O.sent out.new) (text_of (lines_of image.now (said_by walked.now)))) }
     ensures faults { CountsSend result (O.faults out.old) (O.faults out.new) }
 {
     let mut buffer = Vec::with_capacity(alloc, PIECE)?;
-    send_fetched(out, &mut buffer, entry, hits)?;
-    send_rest(out, &mut buffer, entry, count, hits.len() as u32)?;
+    let mut next = image.word_from(0);
+    while let Some(at) = next {
+        let last = send_from(out, &mut buffer, image, walked, at)?;
+        next = word_behind(image, last);
+    }
     finish(out, &mut buffer)
 }
 
-/// Sends a line for each fetch from the entry on.
-fn send_fetched<O: Sink>(
+/// Sends the line that begins at a word of the text, and gives the last address that it speaks of.
+fn send_from<O: Sink>(
     out: &mut O,
     buffer: &mut Vec<u8>,
-    entry: u32,
-    hits: &[bool],
-) -> Result<(), SendStop>
-    requires room { entry + 4 * length hits.now < 2 ^ 32 }
-    requires empty { buffer.old.items ≡ [] }
-    ensures pending { OnOk result (Pending (O.sent out.old) (O.sent out.new) buffer.new.items (text_of (fetched_lines entry hits.now))) }
-    ensures part { OnErr result (SendsPrefix (O.sent out.old) (O.sent out.new) (text_of (fetched_lines entry hits.now))) }
+    image: &Image,
+    walked: &Walked,
+    at: u32,
+) -> Result<u32, SendStop>
+    requires { IsText image.now at }
+    ensures order { IfOk result (λ last. at ≤ last) }
+    ensures pending { IfOk result (SendsLine image.now (said_by walked.now) at
+        (Pending (O.sent out.old) (O.sent out.new) buffer.new.items) buffer.old.items) }
+    ensures part { OnErr result (SendsLineOf image.now (said_by walked.now) at
+        (SendsPrefix (O.sent out.old) (O.sent out.new)) buffer.old.items) }
     ensures faults { CountsSend result (O.faults out.old) (O.faults out.new) }
 {
-    let mut at = entry;
-    for hit in hits {
-        send_fetch(out, buffer, at, *hit)?;
-        at += 4;
-    }
-    Ok(())
+    let line = line_at(image, walked, at);
+    send_line(out, buffer, &line)?;
+    Ok(last_of(&line))
 }
 
-/// Sends the line of one fetch.
-fn send_fetch<O: Sink>(
-    out: &mut O,
-    buffer: &mut Vec<u8>,
-    at: u32,
-    hit: bool,
-) -> Result<(), SendStop>
-    ensures pending { OnOk result (Pending (O.sent out.old) (O.sent out.new) buffer.new.items (buffer.old.items ++ line_text (Line.At at (verdict_of hit)))) }
-    ensures part { OnErr result (SendsPrefix (O.sent out.old) (O.sent out.new) (buffer.old.items ++ line_text (Line.At at (verdict_of hit)))) }
-    ensures faults { CountsSend result (O.faults out.old) (O.faults out.new) }
+/// The line that begins at a word of the text.
+fn line_at(image: &Image, walked: &Walked, at: u32) -> Line
+    requires { IsText image.now at }
+    ensures valid { IsTrue (is_valid result) }
+    ensures order { at ≤ last_of result }
+    ensures line { IsLineAt image.now (said_by walked.now) at result }
 {
-    let verdict = verdict_of(hit);
-    send_line(out, buffer, &Line::At { at, verdict })
+    match walked.hit(at) {
+        Some(hit) => Line::At {
+            at,
+            verdict: verdict_of(hit),
+        },
+        None => Line::Unreachable {
+            first: at,
+            last: range_end(image, walked, at),
+        },
+    }
 }
 
 fn verdict_of(hit: bool) -> Verdict
@@ -77,26 +90,21 @@ fn verdict_of(hit: bool) -> Verdict
     }
 }
 
-/// Sends the range of the words behind the first `done`, if there are any.
-fn send_rest<O: Sink>(
-    out: &mut O,
-    buffer: &mut Vec<u8>,
-    entry: u32,
-    count: u32,
-    done: u32,
-) -> Result<(), SendStop>
-    requires room { entry + 4 * count < 2 ^ 32 }
-    requires few { done ≤ count }
-    ensures pending { OnOk result (Pending (O.sent out.old) (O.sent out.new) buffer.new.items (buffer.old.items ++ text_of (rest_lines entry count done))) }
-    ensures part { OnErr result (SendsPrefix (O.sent out.old) (O.sent out.new) (buffer.old.items ++ text_of (rest_lines entry count done))) }
-    ensures faults { CountsSend result (O.faults out.old) (O.faults out.new) }
+/// The last address that a line by address speaks of.
+fn last_of(line: &Line) -> u32
+    ensures { result ≡ last_of line.now }
 {
-    if done == count {
-        return Ok(());
+    match line {
+        Line::At { at, .. } | Line::Context { at, .. } => *at,
+        Line::Unreachable { last, .. } => *last,
     }
-    let rest = Line::Unreachable {
-        first: entry + 4 * done,
-        last: entry + 4 * (count - 1),
-    };
-    send_line(out, buffer, &rest)
+}
+
+/// The next word of the text behind an address of it.
+fn word_behind(image: &Image, last: u32) -> Option<u32>
+    requires { IsWithin image.now }
+    ensures { IsNextText image.now (last + 4) result }
+{
+    let next = last.checked_add(4)?;
+    image.word_from(next)
 }

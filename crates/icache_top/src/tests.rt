@@ -23,7 +23,7 @@ const USAGE: &str = "icache: usage
 ";
 
 /// The executable of some words at 0x10000, as many as a u32 counts.
-fn wrap(alloc: Global, words: &[u32]) -> Result<Vec<u8>, AllocError> {
+pub(crate) fn wrap(alloc: Global, words: &[u32]) -> Result<Vec<u8>, AllocError> {
     let size = (words.len() as u64).wrapping_mul(4).to_le_bytes();
     let [a, b, c, d, ..] = size;
     let mut file = START.to_vec(alloc)?;
@@ -37,7 +37,7 @@ fn wrap(alloc: Global, words: &[u32]) -> Result<Vec<u8>, AllocError> {
 }
 
 /// So many `nop`s, and the given word behind them.
-fn nops(alloc: Global, count: usize, last: u32) -> Result<Vec<u32>, AllocError> {
+pub(crate) fn nops(alloc: Global, count: usize, last: u32) -> Result<Vec<u32>, AllocError> {
     let mut words = vec![in alloc; 0x13; count]?;
     words.push(last)?;
     Ok(words)
@@ -45,10 +45,10 @@ fn nops(alloc: Global, count: usize, last: u32) -> Result<Vec<u32>, AllocError> 
 
 /// What a run gave, and what standard output and standard error got.
 #[derive(Drop)]
-struct Ran {
-    outcome: Outcome,
-    out: SureSink,
-    err: SureSink,
+pub(crate) struct Ran {
+    pub(crate) outcome: Outcome,
+    pub(crate) out: SureSink,
+    pub(crate) err: SureSink,
 }
 
 fn words_of(alloc: Global, line: &str) -> Result<Vec<String>, AllocError> {
@@ -59,7 +59,7 @@ fn words_of(alloc: Global, line: &str) -> Result<Vec<String>, AllocError> {
     Ok(words)
 }
 
-fn run_on(
+pub(crate) fn run_on(
     rt: &(impl Threads + Sync),
     alloc: Global,
     line: &str,
@@ -82,7 +82,7 @@ fn run_on(
 }
 
 /// One row of a table of runs: the geometry, the words, the status, and the one text that is sent.
-fn check<R: Threads + Sync + Abort>(
+pub(crate) fn check<R: Threads + Sync + Abort>(
     rt: &R,
     alloc: Global,
     line: &str,
@@ -104,7 +104,7 @@ fn check<R: Threads + Sync + Abort>(
     Ok(())
 }
 
-const SMALL: &str = "classify --line 16 --sets 1 --ways 1";
+pub(crate) const SMALL: &str = "classify --line 16 --sets 1 --ways 1";
 
 #[test]
 fn straight_programs_are_classified(rt: HostRuntime) -> Result<(), Fail> {
@@ -189,21 +189,18 @@ fn each_refusal_has_its_text(rt: HostRuntime) -> Result<(), Fail> {
     });
     let text = "icache: bad target 0x00010004 at 0x00010000\n";
     check(&rt, alloc, SMALL, &[0x13], left, text)?;
-    let form = Status::Elf(ElfFault::FormNotBuilt);
-    check(
-        &rt,
-        alloc,
-        SMALL,
-        &[],
-        form,
-        "icache: file form not built yet\n",
-    )?;
     for line in [
         "",
         "--help",
         "classify --line 12",
         "classify --ways 0",
-        "graph",
+        "classify --entry 10000",
+        "classify --entry 0x",
+        "classify --entry 0x123456789",
+        "classify --entry 0x1000g",
+        "classify --entry 0x10000 --entry 0x10000",
+        "graph --line 4",
+        "graph --entry",
     ] {
         check(&rt, alloc, line, &[0x13, 0x100073], Status::Usage, USAGE)?;
     }
@@ -211,19 +208,76 @@ fn each_refusal_has_its_text(rt: HostRuntime) -> Result<(), Fail> {
 }
 
 #[test]
+fn the_words_may_say_where_a_program_begins(rt: HostRuntime) -> Result<(), Fail> {
+    let alloc = rt.alloc();
+    let words = [0x13, 0x13, 0x100073];
+    let later = "0x00010000-0x00010004 unreachable\n0x00010008 always-miss\n";
+    for line in [
+        "classify --line 4 --sets 1 --ways 1 --entry 0x10008",
+        "classify --entry 0x00010008 --line 4 --sets 1 --ways 1",
+    ] {
+        check(&rt, alloc, line, &words, Status::Done, later)?;
+    }
+    Ok(())
+}
+
+#[test]
+fn a_bad_entry_is_refused(rt: HostRuntime) -> Result<(), Fail> {
+    let alloc = rt.alloc();
+    for (line, entry, text) in [
+        (
+            "classify --entry 0x10008",
+            0x10008,
+            "icache: bad entry 0x00010008\n",
+        ),
+        (
+            "classify --entry 0x10002",
+            0x10002,
+            "icache: bad entry 0x00010002\n",
+        ),
+        (
+            "classify --entry 0xFFFFfffc",
+            0xfffffffc,
+            "icache: bad entry 0xfffffffc\n",
+        ),
+    ] {
+        let bad = Status::Flow(FlowFault::BadEntry { entry });
+        check(&rt, alloc, line, &[0x13, 0x100073], bad, text)?;
+    }
+    // The second half of a pair.
+    let pair = [0x00000097, 0x00c080e7, 0x00100073];
+    let bad = Status::Flow(FlowFault::BadEntry { entry: 0x10004 });
+    let line = "classify --entry 0x10004";
+    check(
+        &rt,
+        alloc,
+        line,
+        &pair,
+        bad,
+        "icache: bad entry 0x00010004\n",
+    )?;
+    Ok(())
+}
+
+#[test]
 fn a_file_that_is_empty_or_too_big_is_refused(rt: HostRuntime) -> Result<(), Fail> {
-    let Ran { outcome, out, err } = run_on(&rt, rt.alloc(), SMALL, Vec::new(rt.alloc()))?;
-    assert_eq!(rt; outcome.status, Status::Elf(ElfFault::FormNotBuilt));
-    assert!(rt; out.sent().is_empty());
-    assert_eq!(rt; err.sent(), b"icache: file form not built yet\n".as_slice());
-    let zeros = vec![in rt.alloc(); 0; 16777217]?;
-    let Ran { outcome, out, err } = run_on(&rt, rt.alloc(), SMALL, zeros)?;
-    assert_eq!(rt; outcome.status, Status::FileTooBig);
-    assert!(rt; out.sent().is_empty());
-    assert_eq!(rt;
-        err.sent(),
-        b"icache: file above 16777216 bytes\n".as_slice()
-    );
+    let alloc = rt.alloc();
+    let none = ElfFault::Truncated { need: 52, have: 0 };
+    for (size, status, text) in [
+        (0, Status::Elf(none), "icache: truncated: need 52, have 0\n"),
+        (16777216, Status::Elf(ElfFault::NotElf), "icache: not ELF\n"),
+        (
+            16777217,
+            Status::FileTooBig,
+            "icache: file above 16777216 bytes\n",
+        ),
+    ] {
+        let zeros = vec![in alloc; 0; size]?;
+        let Ran { outcome, out, err } = run_on(&rt, alloc, SMALL, zeros)?;
+        assert_eq!(rt; outcome.status, status);
+        assert!(rt; out.sent().is_empty());
+        assert_eq!(rt; err.sent(), text.as_bytes());
+    }
     Ok(())
 }
 
@@ -243,6 +297,16 @@ fn the_greatest_programs_are_classified(rt: HostRuntime) -> Result<(), Fail> {
     assert_eq!(rt; long.outcome.status, Status::Done);
     assert_eq!(rt; lines_with(long.out.sent(), "00 always-miss"), 1024);
     assert_eq!(rt; lines_with(long.out.sent(), "always-hit"), 64512);
+    let words = nops(alloc, 65536, 0x100073)?;
+    let file = wrap(alloc, &words)?;
+    let longer = run_on(&rt, alloc, "classify --line 256 --sets 16 --ways 1", file)?;
+    let many = FlowFault::TooManyFetches { limit: 65536 };
+    assert_eq!(rt; longer.outcome.status, Status::Flow(many));
+    assert_eq!(rt; longer.outcome.status.code(), 8);
+    assert_eq!(rt;
+        longer.err.sent(),
+        b"icache: fetches above 65536\n".as_slice()
+    );
     let words = nops(alloc, 1023, 0x100073)?;
     let file = wrap(alloc, &words)?;
     let wide = run_on(&rt, alloc, "classify --line 4 --sets 1 --ways 4", file)?;

@@ -1,22 +1,29 @@
-ghost use Rattle.std.specs.Prelude.{◌≡◌, ◌≢◌, ◌↔◌, ℕ, ◌≤◌, List, [], Some, None, IsNone, IsSome, IfSome, IfOk, IfErr, length};
+ghost use Rattle.std.specs.Prelude.{◌≡◌, ◌≢◌, ◌↔◌, ℕ, ◌≤◌, false, List, [], Some, None, IsNone, IsSome, IfSome, IfOk, IfErr, length};
 ghost use Rattle.std.specs.Io.KnownBytes.{Keeps};
 ghost use Rattle.byte_port.specs.Count.{Rose};
 ghost use Rattle.command_spec.specs.Settings.{settings_of};
 ghost use Rattle.top_words.specs.Views.{bytes_of};
 ghost use Rattle.top_words.specs.FaultText.{fault_text};
-ghost use Rattle.straight_walk.specs.Straight.{IsOneBlock, lines_of};
-ghost use Rattle.report_spec.specs.Text.{text_of};
-ghost use Rattle.icache_top.specs.Answer.{Answers, CountsOut, CountsSource, Decides, Reports, SaysOf, SendsText, Tells, status_of, file_limit};
+ghost use Rattle.flow_spec.specs.Acceptance.{IsRefused};
+ghost use Rattle.flow_spec.specs.Straight.{built_successors};
+ghost use Rattle.flow_spec.specs.Successors.{successors};
+ghost use Rattle.report_spec.specs.Graph.{IsGraphText};
+ghost use Rattle.report_spec.specs.Report.{IsReport};
+ghost use Rattle.text_lines.specs.Lines.{IsWithin};
+ghost use Rattle.icache_top.specs.Answer.{Answers, CountsOut, CountsSource, Decides, IsProgramText, Reports, SaysOf, Tells, ToldOf, sent_as, status_of, file_limit};
 
+use crate::graph::send_graph;
 use crate::report::send_report;
 use crate::{Gate, Jobs, NodeWords, Outcome, Status};
 use byte_port::{Sink, Source, read_all, send_all};
 use cache_geom::Geometry;
+use call_expand::expand;
+use command_spec::Settings;
 use elf_image::Image;
 use line_sender::SendStop;
 use std::alloc::Global;
 use std::thread::Threads;
-use straight_walk::{Cache, walk};
+use straight_walk::{Cache, Walked, walk};
 use top_words::{read_words, text_of};
 
 /// The most bytes that a file may have.
@@ -61,7 +68,7 @@ pub fn run<R: Threads + Sync, S: Source, O: Sink, E: Sink, G: Gate + Sync>(
     ensures table { result.table ≡ [] }
     ensures jobs { result.jobs ≡ [] }
 {
-    let status = match classify(alloc, words, source, out) {
+    let status = match answer(alloc, words, source, out) {
         Ok(()) => Status::Done,
         Err(status) => {
             // A failing `err` changes no status.
@@ -76,7 +83,7 @@ pub fn run<R: Threads + Sync, S: Source, O: Sink, E: Sink, G: Gate + Sync>(
     }
 }
 
-fn classify<S: Source, O: Sink>(
+fn answer<S: Source, O: Sink>(
     alloc: Global,
     words: &[String],
     source: &mut S,
@@ -93,45 +100,75 @@ fn classify<S: Source, O: Sink>(
         return Err(Status::Usage);
     };
     let file = read_all(alloc, source, FILE_LIMIT)?;
-    report(alloc, file, &settings.geometry, out)
+    answer_file(alloc, file, &settings, out)
 }
 
-/// Sends the report of a file.
-fn report<O: Sink>(
+/// Sends what the settings ask for of a file.
+fn answer_file<O: Sink>(
     alloc: Global,
     file: Vec<u8>,
-    geometry: &Geometry,
+    settings: &Settings,
     out: &mut O,
 ) -> Result<(), Status>
     requires { length file.items ≤ file_limit }
     ensures not_done { IfErr result (λ status. status ≢ Status.Done) }
-    ensures told { Tells geometry.now file.items (status_of result) (O.sent out.old) (O.sent out.new) }
+    ensures told { Tells settings.now file.items (status_of result) (O.sent out.old) (O.sent out.new) }
     ensures writes { CountsOut (status_of result) (O.faults out.old) (O.faults out.new) }
 {
     let image = elf_image::read(alloc, file)?;
-    let mut cache = Cache::empty(alloc, geometry)?;
-    let hits = walk(alloc, &image, &mut cache)?;
-    send(alloc, out, &image, &hits)
+    match *settings {
+        Settings::Classify { geometry, entry } => {
+            classify(
+                alloc,
+                out,
+                &image,
+                &geometry,
+                entry.unwrap_or(image.entry()),
+            )
+        }
+        Settings::Graph { entry } => graph(alloc, out, &image, entry.unwrap_or(image.entry())),
+    }
 }
 
-/// Sends the report of an image of one block of words, by the hits of its fetches.
-fn send<O: Sink>(alloc: Global, out: &mut O, image: &Image, hits: &[bool]) -> Result<(), Status>
-    requires { (count : ℕ) × IsOneBlock image.now count × (length hits.now ≤ count) }
+/// Sends the report of a program.
+fn classify<O: Sink>(
+    alloc: Global,
+    out: &mut O,
+    image: &Image,
+    geometry: &Geometry,
+    entry: u32,
+) -> Result<(), Status>
+    requires { IsWithin image.now }
     ensures not_done { IfErr result (λ status. status ≢ Status.Done) }
-    ensures text { (count : ℕ) → IsOneBlock image.now count → SendsText (status_of result)
-        (O.sent out.old) (O.sent out.new) (text_of (lines_of image.now.entry count hits.now)) }
+    ensures told { ToldOf (IsRefused (built_successors image.now entry) image.now entry)
+        (IsProgramText (built_successors image.now entry) image.now entry (IsReport image.now entry geometry.now false))
+        (status_of result) (O.sent out.old) (O.sent out.new) }
     ensures writes { CountsOut (status_of result) (O.faults out.old) (O.faults out.new) }
 {
-    match send_report(alloc, out, image.entry(), words_in(image), hits) {
+    let mut cache = Cache::empty(alloc, geometry)?;
+    let walked = walk(alloc, image, entry, &mut cache)?;
+    sent(send_report(alloc, out, image, &walked))
+}
+
+/// Sends the text of a program's graph.
+fn graph<O: Sink>(alloc: Global, out: &mut O, image: &Image, entry: u32) -> Result<(), Status>
+    ensures not_done { IfErr result (λ status. status ≢ Status.Done) }
+    ensures told { ToldOf (IsRefused (successors image.now entry) image.now entry)
+        (IsProgramText (successors image.now entry) image.now entry (IsGraphText image.now entry))
+        (status_of result) (O.sent out.old) (O.sent out.new) }
+    ensures writes { CountsOut (status_of result) (O.faults out.old) (O.faults out.new) }
+{
+    let expanded = expand(alloc, image, entry)?;
+    sent(send_graph(alloc, out, &expanded))
+}
+
+/// How a sending ended, as a status.
+fn sent(sending: Result<(), SendStop>) -> Result<(), Status>
+    ensures { result ≡ sent_as sending }
+{
+    match sending {
         Ok(()) => Ok(()),
         Err(SendStop::Failed) => Err(Status::WriteFault),
         Err(SendStop::OutOfMemory) => Err(Status::OutOfMemory),
     }
-}
-
-/// How many words the one segment of an image has.
-fn words_in(image: &Image) -> u32
-    ensures { (count : ℕ) → IsOneBlock image.now count → result ≡ count }
-{
-    image.segments().first().map_or(0, |text| text.size / 4)
 }

@@ -1,49 +1,83 @@
--- A straight program that ends with a stop is accepted.
-use Rattle.std.proofs.Common.{◌≡◌, ℕ, suc, ◌+◌, ◌*◌, ◌<◌, ◌≤◌, List, [], ◌∷◌, sym, refl, subst, ◌∙◌, arith, inl, inr}
-use Rattle.std.specs.Prelude.{Ok, IsOk}
-use Rattle.std.proofs.Math.Nat.{eq-or-lt_of_le}
+-- A straight program is accepted, or refused with its first fault.
+use Rattle.std.proofs.Common.{◌≡◌, ℕ, suc, ◌+◌, ◌^◌, ◌<◌, ◌≤◌, List, [], ◌∷◌, ◌++◌, refl, sym, subst, arith, inl, inr, append-nil, length-append}
+use Rattle.std.specs.Prelude.{Ok, Err, IsTrue, true, false, not}
+use Rattle.std.specs.List.{AllByRecursion}
 use Rattle.elf_spec.specs.Image.{Image}
-use Rattle.riscv_spec.specs.declared.kind.Kind.TheVariants.{Stop}
+use Rattle.transition_spec.specs.Layer.{all_of}
+use Rattle.flow_spec.specs.Transfer.{is_good_target}
 use Rattle.flow_spec.specs.Configuration.{Configuration}
-use Rattle.flow_spec.specs.Successors.{Successors}
 use Rattle.flow_spec.specs.Straight.{built_successors}
-use Rattle.flow_spec.specs.Acceptance.{IsAccepted, IsFaultless, Step}
-use Rattle.straight_walk.specs.Straight.{IsOneBlock, HasKind, ArePlain}
-use Rattle.straight_walk.proofs.Steps.{built_step, stop_step}
-use Rattle.straight_walk.proofs.Paths.{at_word, Leads, has_text}
-use Rattle.straight_walk.proofs.Blocks.{good_entry, below_count, row_is, built_leads}
-use Rattle.straight_walk.proofs.Layers.{singles, length-singles, all_faultless, no_layer, layers_are, is_faultless}
+use Rattle.flow_spec.specs.Acceptance.{IsAccepted, IsFaultless, IsRefused}
+use Rattle.flow_spec.specs.declared.fault.FlowFault.{FlowFault}
+use Rattle.flow_spec.specs.declared.fault.FlowFault.TheVariants.{BadEntry, TooManyFetches}
+use Rattle.straight_walk.proofs.Paths.{at_word, Leads, IsRun}
+use Rattle.straight_walk.proofs.Layers.{singles, length-singles, all_faultless, none_faulty, has_step, no_layer, layer_is, layers_are}
 
--- neither the stop nor a word before it is faulty
-each_faultless : (step : Step) (entry last : ℕ) → Leads step entry last → step (at_word entry last) ≡ Ok []
-    → (i : ℕ) → i < suc last → IsFaultless step (at_word entry i)
-each_faultless step entry last leads ends i below =
-    let within : i ≤ last = omega arith in
-    elim (eq-or-lt_of_le within) as (λ h. IsFaultless step (at_word entry i)) [
-      | inl same ↦
-          let P : ℕ → Type 0 = λ i. IsFaultless step (at_word entry i) in
-          let Q : Successors → Type 0 = λ r. IsOk r in
-          subst P (sym same) (subst Q (sym ends) refl)
-      | inr earlier ↦ is_faultless step entry last leads i earlier
-    ]
-
-pub accepted : (image : Image) (count last : ℕ) → IsOneBlock image count → ArePlain image last
-    → HasKind image (image.entry + 4 * last) Stop
-    → (layers : List (List Configuration)) × IsAccepted (built_successors image image.entry) image image.entry layers
-accepted image count last block plain stop =
-    let step = built_successors image image.entry in
-    let entry = image.entry in
-    let text = has_text image _ _ stop in
-    let leads = built_leads image last (row_is image count last block plain text) in
-    let ends : step (at_word entry last) ≡ Ok [] = built_step image entry _ Stop stop refl ∙ stop_step image entry _ stop in
-    let layers = singles entry 0 (suc last) in (
-      layers,
+pub accepted : (image : Image) (entry last : ℕ) → is_good_target image entry ≡ true → IsRun image entry last
+    → (layers : List (List Configuration)) × IsAccepted (built_successors image entry) image entry layers
+accepted image entry last good run =
+    let step = built_successors image entry in
+    let few : last ≤ 65536 = omega (arith, run.few) in (
+      singles entry 0 (suc last),
       record {
-        entry_is_good = good_entry image count block;
+        entry_is_good = good;
         are_layers =
-            layers_are step entry last leads 0 (suc last) (suc last) (omega arith) (omega arith) ([] ∷ [])
-            (no_layer step entry last leads ends, tt);
-        faultless = all_faultless step entry 0 (suc last) (suc last) (omega arith) (each_faultless step entry last leads ends);
-        few = omega (arith, length-singles entry 0 (suc last), below_count image count last block text, block.few);
+            layers_are step entry last run.room few run.leads 0 (suc last) (suc last) (omega arith) (omega arith) ([] ∷ [])
+            (no_layer step entry last run.room few run.leads run.ends, tt);
+        faultless = all_faultless step entry 0 (suc last) (suc last) (omega arith) (none_faulty step entry last [] run.leads run.ends);
+        few = omega (arith, length-singles entry 0 (suc last), run.few);
       },
     )
+
+pub bad_entry : (image : Image) (entry : ℕ) → is_good_target image entry ≡ false
+    → IsRefused (built_successors image entry) image entry (BadEntry entry)
+bad_entry image entry bad = inl (rw bad refl, refl)
+
+module _ (image : Image) (entry n : ℕ) (good : is_good_target image entry ≡ true) (room : entry < 2 ^ 32) (leads : Leads (built_successors image entry) entry n) where
+  -- n words that lead on, and then a fault
+  pub faulty : n < 65536 → (fault : FlowFault) → built_successors image entry (at_word entry n) ≡ Err fault
+      → IsRefused (built_successors image entry) image entry fault
+  faulty below fault is =
+      let step = built_successors image entry in
+      let few : n ≤ 65536 = omega arith in
+      let last = at_word entry n in
+      let earlier = singles entry 0 n in
+      let Faultless : List Configuration → Type 0 = AllByRecursion (IsFaultless step) in
+      let faultless = all_faultless step entry 0 n n (omega arith) (λ i at. has_step step _ _ (leads i at)) in
+      inr (inl (
+        earlier,
+        [],
+        last,
+        [],
+        record {
+          entry_is_good = good;
+          are_layers =
+              layers_are step entry n room few leads 0 n n (omega arith) (omega arith) ((last ∷ []) ∷ [])
+              (layer_is step entry n room few leads n (omega arith), tt);
+          faultless = subst Faultless (sym (append-nil (all_of earlier))) faultless;
+          few = omega (arith, length-append (all_of earlier) (last ∷ []), length-singles entry 0 n);
+        },
+        is,
+      ))
+
+  -- as many words as there may be, that lead to one more
+  pub too_many : n ≡ 65536 → IsRefused (built_successors image entry) image entry (TooManyFetches 65536)
+  too_many all =
+      let step = built_successors image entry in
+      let few : n ≤ 65536 = omega arith in
+      let last = at_word entry n in
+      let earlier = singles entry 0 n in
+      inr (inr (
+        earlier,
+        last ∷ [],
+        record {
+          entry_is_good = good;
+          are_layers =
+              layers_are step entry n room few leads 0 n n (omega arith) (omega arith) ((last ∷ []) ∷ [])
+              (layer_is step entry n room few leads n (omega arith), tt);
+          faultless = all_faultless step entry 0 n n (omega arith) (λ i at. has_step step _ _ (leads i at));
+          few = omega (arith, length-singles entry 0 n);
+          many = omega (arith, length-append (all_of earlier) (last ∷ []), length-singles entry 0 n);
+        },
+        refl,
+      ))

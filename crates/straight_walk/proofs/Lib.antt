@@ -1,12 +1,6 @@
 pub mod Steps
 pub mod Paths
 pub mod Verdicts
-pub mod Lines
-pub mod BlockText
-pub mod Blocks
 pub mod Layers
-pub mod Refused
 pub mod Accepted
-pub mod Reported
 pub mod Kept
-pub mod Wrapped

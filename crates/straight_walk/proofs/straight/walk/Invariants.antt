@@ -1,17 +1,22 @@
-use Rattle.std.proofs.Common.{◌≡◌, ◌+◌, ◌-◌, ◌*◌, ◌≤◌, length}
-use Rattle.straight_walk.specs.Straight.{ArePlain, fetched, hits_of}
+use Rattle.std.proofs.Common.{◌≡◌, ◌-◌, ◌≤◌, length}
+use Rattle.elf_spec.specs.Word.{IsText}
+use Rattle.flow_spec.specs.Straight.{built_successors}
+use Rattle.straight_walk.specs.Straight.{nth_word, fetched, hits_of}
 use Rattle.straight_walk.specs.Cached.{Keeps}
+use Rattle.straight_walk.proofs.Paths.{Leads}
 use Rattle.straight_walk.proofs.straight.walk.Given as goal
 
-abbrev pub invariant-loop-word : goal.invariant-loop-word
-invariant-loop-word l = record {
-  at : l.at ≡ l.image.entry + 4 * length l.hits.items;
-  low : length l.hits.items ≤ 65536;
-  plain : ArePlain l.image (length l.hits.items);
-  hits : l.hits.items ≡ hits_of l.initial.cache.geometry l.image.entry (length l.hits.items);
+-- there is a hit or a miss for each word before this one, and each of them leads to the next
+abbrev pub invariant-loop-hits : goal.invariant-loop-hits
+invariant-loop-hits l = record {
+  at : l.at ≡ nth_word l.entry (length l.hits.items);
+  few : length l.hits.items ≤ 65536;
+  text : IsText l.image l.at;
+  leads : Leads (built_successors l.image l.entry) l.entry (length l.hits.items);
+  hits : l.hits.items ≡ hits_of l.initial.cache.geometry l.entry (length l.hits.items);
   geometry : l.cache.geometry ≡ l.initial.cache.geometry;
-  kept : Keeps l.cache (fetched l.image.entry (length l.hits.items));
+  kept : Keeps l.cache (fetched l.entry (length l.hits.items));
 }
 
-abbrev pub decreases-loop-word : goal.decreases-loop-word
-decreases-loop-word l = 0x50000 - l.at
+abbrev pub decreases-loop-hits : goal.decreases-loop-hits
+decreases-loop-hits l = 65536 - length l.hits.items

@@ -1,0 +1,44 @@
+// The text of a program's graph, line by line.
+ghost use Rattle.std.specs.Prelude.{◌≡◌, ◌<◌, length, slice_get, Some, OnOk, OnErr};
+ghost use Rattle.std.specs.Io.KnownBytes.{Appends};
+ghost use Rattle.byte_port.specs.Stream.{SendsPrefix};
+ghost use Rattle.line_sender.specs.Pending.{CountsSend};
+ghost use Rattle.icache_top.specs.GraphLines.{graph_lines_of, graph_text_of};
+
+use byte_port::Sink;
+use call_expand::Expanded;
+use line_sender::{PIECE, SendStop, finish, send_graph_line};
+use std::alloc::Global;
+use verdict_report::GraphLine;
+
+/// Sends the text of a graph: a line for each configuration. After an error the sink has a front of it.
+pub fn send_graph<O: Sink>(alloc: Global, out: &mut O, expanded: &Expanded) -> Result<(), SendStop>
+    requires { length expanded.now.configurations ≡ length expanded.now.nodes }
+    ensures whole { OnOk result (Appends (O.sent out.old) (O.sent out.new) (graph_text_of expanded.now)) }
+    ensures part { OnErr result (SendsPrefix (O.sent out.old) (O.sent out.new) (graph_text_of expanded.now)) }
+    ensures faults { CountsSend result (O.faults out.old) (O.faults out.new) }
+{
+    let mut buffer = Vec::with_capacity(alloc, PIECE)?;
+    for node in 0..expanded.graph().nodes().len() as u32 {
+        send_graph_line(out, &mut buffer, &line_of(expanded, node))?;
+    }
+    finish(out, &mut buffer)
+}
+
+/// The line of the configuration with a number.
+fn line_of(expanded: &Expanded, node: u32) -> GraphLine
+    requires inside { node < length expanded.now.nodes }
+    requires one_each { length expanded.now.configurations ≡ length expanded.now.nodes }
+    ensures { slice_get (graph_lines_of expanded.now) node ≡ Some result }
+{
+    let config = expanded.config(node);
+    let edges = expanded.graph().nodes()[node as usize];
+    GraphLine {
+        node,
+        at: config.at,
+        depth: config.depth,
+        back: expanded.top(node).map(|frame| frame.back),
+        next: edges.first,
+        taken: edges.second,
+    }
+}
