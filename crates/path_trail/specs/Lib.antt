@@ -1,0 +1,3 @@
+pub use Rattle.transition_spec.specs.Path
+pub use Rattle.path_model.specs.Graph
+pub mod Trail
