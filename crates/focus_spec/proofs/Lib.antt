@@ -1,0 +1,3 @@
+mod Recency
+mod Stack
+mod Renamed

@@ -1,0 +1,173 @@
+-- Recency lists: blocks that no list has twice, the last fetched first.
+use Rattle.std.proofs.Common.{◌≡◌, ℕ, zero, suc, ◌+◌, true, false, not, cond, ◌&&◌, ◌==◌, if◌then◌else◌, IsFalse, List, [], ◌∷◌, length, take, filter, Option, Some, None, option_map, refl, sym, ap, subst, ◌∙◌, take-take, le_refl, inl, inr, arith, eq-eqb, lt-ltb}
+use Rattle.std.proofs.lemmas.Grind.{common_steps}
+use Rattle.std.proofs.lemmas.Bool.{cases_eq, ne_eqb}
+use Rattle.std.proofs.lemmas.Bool.Decides.{nat_tests}
+use Rattle.cache_spec.specs.Lru.{is_in}
+use Rattle.focus_spec.specs.Younger.{is_small}
+
+-- no block stands twice
+abbrev pub AreDistinct : List ℕ → Type 0
+AreDistinct [] = Unit {0}
+AreDistinct (block ∷ blocks) = IsFalse (is_in blocks block) × AreDistinct blocks
+
+-- the blocks other than this one
+abbrev pub others : List ℕ → ℕ → List ℕ
+others blocks block = filter (λ other. not (other == block)) blocks
+
+-- where the block is not there, all blocks are others
+others-absent : (block : ℕ) (blocks : List ℕ) → IsFalse (is_in blocks block) → others blocks block ≡ blocks
+others-absent block [] absent = refl
+others-absent block (other ∷ blocks) absent = grind (arith, nat_tests, common_steps, others-absent block blocks)
+
+-- which blocks are others
+pub is_in-others : (block kept : ℕ) (blocks : List ℕ)
+    → is_in (others blocks block) kept ≡ (not (kept == block) && is_in blocks kept)
+is_in-others block kept [] = grind (arith, nat_tests)
+is_in-others block kept (other ∷ blocks) = grind (arith, nat_tests, common_steps, is_in-others block kept blocks)
+
+-- the others of distinct blocks are distinct
+others-distinct : (block : ℕ) (blocks : List ℕ) → AreDistinct blocks → AreDistinct (others blocks block)
+others-distinct block [] distinct = tt
+others-distinct block (other ∷ blocks) distinct =
+    grind (arith, nat_tests, common_steps, is_in-others block other blocks, others-distinct block blocks distinct.1)
+
+-- distinct blocks are distinct after a fetch
+pub fetched-distinct : (block : ℕ) (blocks : List ℕ) → AreDistinct blocks → AreDistinct (block ∷ others blocks block)
+fetched-distinct block blocks distinct =
+    (grind (arith, nat_tests, is_in-others block block blocks), others-distinct block blocks distinct)
+
+-- how many others there are
+pub length-others : (block : ℕ) (blocks : List ℕ) → AreDistinct blocks
+    → length (others blocks block) + cond (is_in blocks block) 1 0 ≡ length blocks
+length-others block [] distinct = refl
+length-others block (other ∷ blocks) distinct =
+    grind (arith, nat_tests, common_steps, others-absent block blocks, length-others block blocks distinct.1)
+
+-- a block that is not there is not among the first n
+is_in-take : (n block : ℕ) (blocks : List ℕ) → IsFalse (is_in blocks block) → IsFalse (is_in (take n blocks) block)
+is_in-take zero block blocks absent = refl
+is_in-take (suc n) block [] absent = refl
+is_in-take (suc n) block (other ∷ blocks) absent = grind (arith, nat_tests, common_steps, is_in-take n block blocks)
+
+-- the others behind the block itself
+others-at : (block other : ℕ) (blocks : List ℕ) → (other == block) ≡ true
+    → others (other ∷ blocks) block ≡ others blocks block
+others-at block other blocks same = simp same
+
+-- another block is one of the others
+others-cons : (block other : ℕ) (blocks : List ℕ) → (other == block) ≡ false
+    → others (other ∷ blocks) block ≡ other ∷ others blocks block
+others-cons block other blocks apart = simp apart
+
+-- where the block is not there, a cut list and the whole have the same first n others
+take-absent : (n block : ℕ) (blocks : List ℕ) → IsFalse (is_in blocks block)
+    → take n (others (take n blocks) block) ≡ take n (others blocks block)
+take-absent n block blocks absent =
+    ap (λ s. take n s) (others-absent block (take n blocks) (is_in-take n block blocks absent))
+    ∙ take-take n n blocks (le_refl n)
+    ∙ sym (ap (λ s. take n s) (others-absent block blocks absent))
+
+-- of distinct blocks that are cut to one more than n, the first n others are those of all blocks
+pub take-others : (n block : ℕ) (blocks : List ℕ) → AreDistinct blocks
+    → take n (others (take (suc n) blocks) block) ≡ take n (others blocks block)
+take-others zero block blocks distinct = refl
+take-others (suc n) block [] distinct = refl
+take-others (suc n) block (other ∷ blocks) distinct = elim (cases_eq other block) [
+  | inl same ↦
+      let at = eq-eqb other block same in
+      ap (λ s. take (suc n) s) (others-at block other (take (suc n) blocks) at)
+      ∙ take-absent (suc n) block blocks (subst (λ (b : ℕ). IsFalse (is_in blocks b)) same distinct.0)
+      ∙ ap (λ s. take (suc n) s) (sym (others-at block other blocks at))
+  | inr apart ↦
+      let unlike = ne_eqb other block apart in
+      ap (λ s. take (suc n) s) (others-cons block other (take (suc n) blocks) unlike)
+      ∙ ap (λ s. other ∷ s) (take-others n block blocks distinct.1)
+      ∙ ap (λ s. take (suc n) s) (sym (others-cons block other blocks unlike))
+]
+
+-- the blocks that stand before this one; None where it is not there
+abbrev pub before : ℕ → List ℕ → Option (List ℕ)
+before block [] = None
+before block (other ∷ blocks) =
+    if other == block then Some [] else option_map (λ set. other ∷ set) (before block blocks)
+
+-- no block stands before the first one
+before-first : (block other : ℕ) (blocks : List ℕ) → (other == block) ≡ true → before block (other ∷ blocks) ≡ Some []
+before-first block other blocks same = simp same
+
+-- another block stands before all others
+pub before-cons : (block other : ℕ) (blocks : List ℕ) → (other == block) ≡ false
+    → before block (other ∷ blocks) ≡ option_map (λ set. other ∷ set) (before block blocks)
+before-cons block other blocks apart = simp apart
+
+-- nothing has fewer than no blocks
+small-none : (set : Option (List ℕ)) → is_small 0 set ≡ false
+small-none None = refl
+small-none (Some set) = grind (arith, nat_tests)
+
+-- one more block and one more way
+small-more : (n block : ℕ) (set : Option (List ℕ)) → is_small (suc n) (option_map (λ s. block ∷ s) set) ≡ is_small n set
+small-more n block None = refl
+small-more n block (Some set) = grind (arith, nat_tests)
+
+-- a block is among the first n exactly where fewer than n stand before it
+pub is_in-before : (n block : ℕ) (blocks : List ℕ) → is_in (take n blocks) block ≡ is_small n (before block blocks)
+is_in-before zero block blocks = sym (small-none (before block blocks))
+is_in-before (suc n) block [] = refl
+is_in-before (suc n) block (other ∷ blocks) = elim (cases_eq other block) [
+  | inl same ↦
+      let at = eq-eqb other block same in
+      let back = eq-eqb block other (sym same) in
+      simp back (sym (lt-ltb 0 (suc n) (omega arith)) ∙ ap (λ o. is_small (suc n) o) (sym (before-first block other blocks at)))
+  | inr apart ↦
+      let unlike = ne_eqb other block apart in
+      let back = ne_eqb block other (λ same. apart (sym same)) in
+      simp back (
+      is_in-before n block blocks
+      ∙ sym (small-more n other (before block blocks))
+      ∙ ap (λ o. is_small (suc n) o) (sym (before-cons block other blocks unlike))
+      )
+]
+
+-- the block itself is left out of those before another
+map-at : (other first : ℕ) (set : Option (List ℕ)) → (first == other) ≡ true
+    → option_map (λ s. others s other) set ≡ option_map (λ s. others s other) (option_map (λ s. first ∷ s) set)
+map-at other first None same = refl
+map-at other first (Some set) same = ap (λ s. Some s) (sym (others-at other first set same))
+
+-- another block stays among those before
+map-cons : (other first : ℕ) (set : Option (List ℕ)) → (first == other) ≡ false
+    → option_map (λ s. first ∷ s) (option_map (λ s. others s other) set)
+    ≡ option_map (λ s. others s other) (option_map (λ s. first ∷ s) set)
+map-cons other first None apart = refl
+map-cons other first (Some set) apart = ap (λ s. Some s) (sym (others-cons other first set apart))
+
+-- which of the others stand before another block
+pub before-others : (block other : ℕ) (blocks : List ℕ) → (other ≡ block → ⊥)
+    → before block (others blocks other) ≡ option_map (λ set. others set other) (before block blocks)
+before-others block other [] apart = refl
+before-others block other (first ∷ blocks) apart = elim (cases_eq first other) [
+  | inl same ↦
+      let at = eq-eqb first other same in
+      let unlike = ne_eqb first block (λ is. apart (sym same ∙ is)) in
+      ap (λ s. before block s) (others-at other first blocks at)
+      ∙ before-others block other blocks apart
+      ∙ map-at other first (before block blocks) at
+      ∙ ap (λ o. option_map (λ set. others set other) o) (sym (before-cons block first blocks unlike))
+  | inr differ ↦
+      let unlike = ne_eqb first other differ in
+      ap (λ s. before block s) (others-cons other first blocks unlike)
+      ∙ elim (cases_eq first block) [
+        | inl same ↦
+            let at = eq-eqb first block same in
+            before-first block first (others blocks other) at
+            ∙ ap (λ o. option_map (λ set. others set other) o) (sym (before-first block first blocks at))
+        | inr far ↦
+            let away = ne_eqb first block far in
+            before-cons block first (others blocks other) away
+            ∙ ap (λ o. option_map (λ set. first ∷ set) o) (before-others block other blocks apart)
+            ∙ map-cons other first (before block blocks) unlike
+            ∙ ap (λ o. option_map (λ set. others set other) o) (sym (before-cons block first blocks away))
+      ]
+]

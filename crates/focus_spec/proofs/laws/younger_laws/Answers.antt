@@ -1,0 +1,14 @@
+use Rattle.cache_spec.specs.Geometry.{block_of, set_of}
+use Rattle.focus_spec.proofs.Renamed.{younger-named}
+use Rattle.focus_spec.proofs.Stack.{is_in-contents, rising-younger}
+use Rattle.focus_spec.proofs.laws.younger_laws.Goals as goal
+
+pub returns-clause-hits : goal.returns-clause-hits
+returns-clause-hits c =
+    λ g address earlier. is_in-contents g (block_of g address) (set_of g (block_of g address)) earlier
+
+pub returns-clause-rising : goal.returns-clause-rising
+returns-clause-rising c = rising-younger
+
+pub returns-clause-renamed : goal.returns-clause-renamed
+returns-clause-renamed c = younger-named
