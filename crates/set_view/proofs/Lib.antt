@@ -1,0 +1,5 @@
+pub mod Rising
+pub mod Members
+pub mod Locals
+pub mod Renamed
+pub mod Hits

@@ -1,0 +1,3 @@
+pub use Rattle.focus_spec.specs.Focus
+pub mod View
+pub mod Places
