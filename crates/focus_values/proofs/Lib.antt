@@ -1,0 +1,15 @@
+pub mod SetFacts
+pub mod Walked
+pub mod Lowest
+pub mod Made
+pub mod Small
+pub mod Meaning
+pub mod Moved
+pub mod Kept
+pub mod Fit
+pub mod Reached
+pub mod Outcome
+pub mod Exact
+pub mod ExactMost
+pub mod NodeValues
+pub mod Solved

@@ -1,0 +1,10 @@
+pub use Rattle.set_view.specs.View
+pub mod Tests
+pub mod Power
+pub mod PowerLaws
+pub mod Sets
+pub mod AllSets
+pub mod Marks
+pub mod MarkLaws
+pub mod Families
+pub mod Exact
