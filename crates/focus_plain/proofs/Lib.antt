@@ -1,0 +1,15 @@
+pub mod Order
+pub mod Reached
+pub mod Course
+pub mod Table
+pub mod Links
+pub mod Edges
+pub mod Followed
+pub mod Spread
+pub mod Equals
+pub mod Begun
+pub mod Noted
+pub mod Fates
+pub mod Fetchers
+pub mod Alike
+pub mod Kept

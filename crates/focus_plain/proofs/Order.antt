@@ -1,0 +1,161 @@
+-- The order of younger sets, and that nodes keep it.
+use Rattle.std.proofs.Common.{◌≡◌, ℕ, ◌<◌, ◌≤◌, inl, inr, eqb, ltb, List, [], ◌∷◌, length, Option, Some, None, option_map, map, refl, sym, ap, subst, ◌∙◌, arith}
+use Rattle.std.specs.Option.{is_some}
+use Rattle.std.proofs.lemmas.Bool.{cases_Bool, cases_lt}
+use Rattle.std.proofs.lemmas.Bool.Decides.{nat_tests}
+use Rattle.std.specs.List.Sorted.{IsStrictlyIncreasing}
+use Rattle.set_list.specs.SetList.{IsSubset}
+use Rattle.set_list.specs.Rising.{Contains-front}
+use Rattle.focus_spec.specs.Younger.{with_number, after, younger, is_small, fetch_at}
+use Rattle.focus_spec.specs.Focus.{younger_after}
+use Rattle.focus_spec.specs.RisingSets.{rising-empty, rising-tail, above_first, not_below_first, behind_first}
+use Rattle.focus_spec.specs.WithNumber.{Contains-with_number, rising-with_number}
+use Rattle.set_view.specs.View.{View}
+use Rattle.focus_plain.specs.Cut.{cut, IsBelow, left_by, behind}
+
+-- a younger set rises, if it is there
+abbrev pub IsRising : Option (List ℕ) → Type 0
+IsRising None = Unit {0}
+IsRising (Some set) = IsStrictlyIncreasing set
+
+-- everything is below itself
+pub below_refl : (younger : Option (List ℕ)) → IsBelow younger younger
+below_refl None = tt
+below_refl (Some set) = λ x there. there
+
+-- the order goes on
+pub below_trans : (one two three : Option (List ℕ)) → IsBelow one two → IsBelow two three → IsBelow one three
+below_trans one two None below on = tt
+below_trans one None (Some three) below on = absurd on
+below_trans None (Some two) (Some three) below on = absurd below
+below_trans (Some one) (Some two) (Some three) below on = λ x there. on x (below x there)
+
+-- a set within another has no more numbers
+pub length-within : (small large : List ℕ) → IsStrictlyIncreasing small → IsStrictlyIncreasing large → IsSubset small large → length small ≤ length large
+length-within [] large up large_up within = omega arith
+length-within (x ∷ xs) [] up large_up within = let there = within x ((Contains-front x xs x).1 (inr refl)) in absurd (omega (arith, there.1))
+length-within (x ∷ xs) (y ∷ ys) up large_up within =
+    let least = not_below_first y ys x large_up (within x ((Contains-front x xs x).1 (inr refl))) in
+    elim (cases_lt y x) [
+      | inl above ↦
+          let rest = length-within (x ∷ xs) ys up (rising-tail y ys large_up) (λ z there.
+          let reached = not_below_first x xs z up there in
+          behind_first y ys z (omega arith) (within z there)) in
+          omega (arith, rest)
+      | inr not_above ↦
+          let rest = length-within xs ys (rising-tail x xs up) (rising-tail y ys large_up) (λ z there.
+          let reached = above_first x xs z up there in
+          behind_first y ys z (omega arith) (within z ((Contains-front x xs z).1 (inl there)))) in
+          omega (arith, rest)
+    ]
+
+-- a small set is kept, and a large one is not
+pub cut-small : (ways : ℕ) (set : List ℕ) → length set < ways → cut ways (Some set) ≡ Some set
+cut-small ways set small = grind (arith, nat_tests)
+
+pub cut-large : (ways : ℕ) (set : List ℕ) → ways ≤ length set → cut ways (Some set) ≡ None
+cut-large ways set large = grind (arith, nat_tests)
+
+-- it is cut once
+pub cut-cut : (ways : ℕ) (younger : Option (List ℕ)) → cut ways (cut ways younger) ≡ cut ways younger
+cut-cut ways None = refl
+cut-cut ways (Some set) = elim (cases_lt (length set) ways) [
+  | inl small ↦ ap (cut ways) (cut-small ways set small)
+  | inr large ↦ ap (cut ways) (cut-large ways set large) ∙ sym (cut-large ways set large)
+]
+
+-- a cut set rises as the set does
+pub cut-rising : (ways : ℕ) (younger : Option (List ℕ)) → IsRising younger → IsRising (cut ways younger)
+cut-rising ways None rising = tt
+cut-rising ways (Some set) rising = elim (cases_lt (length set) ways) [
+  | inl small ↦ subst IsRising (sym (cut-small ways set small)) rising
+  | inr large ↦ subst IsRising (sym (cut-large ways set large)) tt
+]
+
+-- a cut keeps the order
+cut-below : (ways : ℕ) (one two : Option (List ℕ)) → IsRising one → IsRising two → IsBelow one two → IsBelow (cut ways one) (cut ways two)
+cut-below ways one None rising two_rising below = tt
+cut-below ways None (Some two) rising two_rising below = absurd below
+cut-below ways (Some one) (Some two) rising two_rising below = elim (cases_lt (length two) ways) [
+  | inl small ↦
+      let short = length-within one two rising two_rising below in
+      subst (IsBelow (cut ways (Some one))) (sym (cut-small ways two small))
+      (subst (λ (younger : Option (List ℕ)). IsBelow younger (Some two)) (sym (cut-small ways one (omega arith))) below)
+  | inr large ↦ subst (IsBelow (cut ways (Some one))) (sym (cut-large ways two large)) tt
+]
+
+-- with one more number the order stays
+with_number-within : (x : ℕ) (one two : List ℕ) → IsSubset one two → IsSubset (with_number x one) (with_number x two)
+with_number-within x one two within = λ y there. (Contains-with_number x two y).1 (elim ((Contains-with_number x one y).0 there) [
+  | inl old ↦ inl (within y old)
+  | inr new ↦ inr new
+])
+
+-- one more fetch keeps the order
+after-below : (block : ℕ) (fetch : Option ℕ) (one two : Option (List ℕ)) → IsBelow one two → IsBelow (after block fetch one) (after block fetch two)
+after-below block None one two below = below
+after-below block (Some other) one two below = elim (cases_Bool (eqb other block)) [
+  | inl own ↦ rw own (λ x there. there)
+  | inr others ↦ rw others (added one two below)
+]
+  where
+    added : (one two : Option (List ℕ)) → IsBelow one two → IsBelow (option_map (with_number other) one) (option_map (with_number other) two)
+    added one None below = tt
+    added None (Some two) below = absurd below
+    added (Some one) (Some two) below = with_number-within other one two below
+
+-- one more fetch leaves a set that rises
+pub after-rising : (block : ℕ) (fetch : Option ℕ) (younger : Option (List ℕ)) → IsRising younger → IsRising (after block fetch younger)
+after-rising block None younger rising = rising
+after-rising block (Some other) younger rising = elim (cases_Bool (eqb other block)) [
+  | inl own ↦ rw own rising-empty
+  | inr others ↦ rw others (added younger rising)
+]
+  where
+    added : (younger : Option (List ℕ)) → IsRising younger → IsRising (option_map (with_number other) younger)
+    added None rising = tt
+    added (Some set) rising = rising-with_number other set rising
+
+-- younger sets rise
+pub younger-rising : (block : ℕ) (fetches : List (Option ℕ)) → IsRising (younger block fetches)
+younger-rising block [] = tt
+younger-rising block (fetch ∷ earlier) = after-rising block fetch (younger block earlier) (younger-rising block earlier)
+
+-- what a path leaves rises
+pub left_by-rising : (view : View) (block : ℕ) (members : List ℕ) → IsRising (left_by view block members)
+left_by-rising view block members = cut-rising view.geometry.ways (younger_after view.fetches block members) (younger-rising block (map (fetch_at view.fetches) members))
+
+-- a node keeps the order
+pub behind-below : (view : View) (block n : ℕ) (one two : Option (List ℕ)) → IsRising one → IsRising two → IsBelow one two
+    → IsBelow (behind view block n one) (behind view block n two)
+behind-below view block n one two rising two_rising below =
+    let fetch : Option ℕ = fetch_at view.fetches n in
+    cut-below view.geometry.ways (after block fetch one) (after block fetch two) (after-rising block fetch one rising) (after-rising block fetch two two_rising)
+    (after-below block fetch one two below)
+
+-- one number more doesn't make a set shorter
+longer : (x : ℕ) (set : List ℕ) → IsStrictlyIncreasing set → length set ≤ length (with_number x set)
+longer x set rising = length-within set (with_number x set) rising (rising-with_number x set rising) (λ y there. (Contains-with_number x set y).1 (inl there))
+
+-- what is cut off before a fetch is cut off behind it
+cut-after : (ways block : ℕ) (fetch : Option ℕ) (younger : Option (List ℕ)) → IsRising younger
+    → cut ways (after block fetch (cut ways younger)) ≡ cut ways (after block fetch younger)
+cut-after ways block None younger rising = cut-cut ways younger
+cut-after ways block (Some other) None rising = refl
+cut-after ways block (Some other) (Some set) rising = elim (cases_lt (length set) ways) [
+  | inl small ↦ ap (λ younger. cut ways (after block (Some other) younger)) (cut-small ways set small)
+  | inr large ↦ ap (λ younger. cut ways (after block (Some other) younger)) (cut-large ways set large) ∙ elim (cases_Bool (eqb other block)) [
+    | inl own ↦ rw own refl
+    | inr others ↦ rw others (sym (cut-large ways (with_number other set) (let more = longer other set rising in omega arith)))
+  ]
+]
+
+-- one member further
+pub left_by-more : (view : View) (block n : ℕ) (members : List ℕ) → left_by view block (n ∷ members) ≡ behind view block n (left_by view block members)
+left_by-more view block n members =
+    sym (cut-after view.geometry.ways block (fetch_at view.fetches n) (younger_after view.fetches block members) (younger-rising block (map (fetch_at view.fetches) members)))
+
+-- a younger set is small where it is not cut off
+pub small-cut : (ways : ℕ) (younger : Option (List ℕ)) → is_small ways younger ≡ is_some (cut ways younger)
+small-cut ways None = refl
+small-cut ways (Some set) = elim (cases_Bool (ltb (length set) ways)) [ inl small ↦ rw small refl | inr large ↦ rw large refl ]

@@ -1,0 +1,30 @@
+-- Younger sets as far as they tell hits: those with fewer blocks than the cache set has ways; all others are None,
+-- above everything.
+use Rattle.std.specs.Prelude.{ℕ, if◌then◌else◌, nat_lt, List, length, Option, Some, None}
+use Rattle.set_list.specs.SetList.{IsSubset}
+use Rattle.focus_spec.specs.Younger.{after, fetch_at}
+use Rattle.focus_spec.specs.Focus.{younger_after}
+use Rattle.set_view.specs.View.{View}
+
+-- the younger set where it is small
+abbrev pub cut : ℕ → Option (List ℕ) → Option (List ℕ)
+cut ways None = None
+cut ways (Some set) = if nat_lt (length set) ways then Some set else None
+
+-- there is a younger set, and it is included in this set
+abbrev pub IsWithin : Option (List ℕ) → List ℕ → Type 0
+IsWithin None larger = ⊥
+IsWithin (Some set) larger = IsSubset set larger
+
+-- the first is included in the second, or the second is None
+abbrev pub IsBelow : Option (List ℕ) → Option (List ℕ) → Type 0
+IsBelow younger None = Unit {0}
+IsBelow younger (Some larger) = IsWithin younger larger
+
+-- what these members of a path, the last of them first, leave of the block's younger set
+abbrev pub left_by : View → ℕ → List ℕ → Option (List ℕ)
+left_by view block members = cut view.geometry.ways (younger_after view.fetches block members)
+
+-- what a node makes of the younger set before it
+abbrev pub behind : View → ℕ → ℕ → Option (List ℕ) → Option (List ℕ)
+behind view block n younger = cut view.geometry.ways (after block (fetch_at view.fetches n) younger)

@@ -1,0 +1,37 @@
+-- The entries at which the search found a hit or a miss, by their nodes.
+use Rattle.std.specs.Prelude.{◌≡◌, ◌⊎◌, ℕ, ◌<◌, Bool, true, false, List, length, Option, Some}
+use Rattle.std.specs.Option.{is_some}
+use Rattle.std.specs.Prelude.{slice_get}
+use Rattle.path_trail.specs.Trail.{node_at}
+use Rattle.set_view.specs.View.{View}
+use Rattle.focus_plain.specs.declared.search.Entry.{Entry}
+use Rattle.focus_plain.specs.declared.ends.Found.{Found}
+use Rattle.focus_plain.specs.Entries.{trail_of, seen_of, latest_at, place_of, IsSpread}
+use Rattle.focus_plain.specs.Search.{IsSearch}
+
+-- of the first entries, those with a small younger set, or those with none, by their nodes: each that is told is one,
+-- and one is told for each node that has one
+pub record AreEnds (entries : List Entry) (count : ℕ) (small : Bool) (ends : List (Option ℕ)) : Type 0 where
+  pub sound : (n number : ℕ) → latest_at ends n ≡ Some number
+      → (number < count) × (node_at (trail_of entries) number ≡ n)
+      × (is_some (place_of (slice_get entries number)) ≡ small)
+  pub complete : (number : ℕ) → number < count → is_some (place_of (slice_get entries number)) ≡ small
+      → (other : ℕ) × (latest_at ends (node_at (trail_of entries) number) ≡ Some other)
+
+-- the number is noted for the node, unless there is another one
+pub record IsNoted (old new : List (Option ℕ)) (node number : ℕ) : Type 0 where
+  pub as_long : length new ≡ length old
+  pub only : (n other : ℕ) → latest_at new n ≡ Some other
+      → (latest_at old n ≡ Some other) ⊎ ((n ≡ node) × (other ≡ number))
+  pub kept : (n other : ℕ) → latest_at old n ≡ Some other → latest_at new n ≡ Some other
+  pub there : (other : ℕ) × (latest_at new node ≡ Some other)
+
+-- a search that is done, and where it found hits and misses
+pub record IsFound (view : View) (found : Found) : Type 0 where
+  pub search : IsSearch view found.block found.search
+  pub spread : IsSpread view found.block (trail_of found.search.entries.items)
+      (seen_of found.search.sets.items found.search.entries.items) (length found.search.entries.items)
+  pub hits : AreEnds found.search.entries.items (length found.search.entries.items) true found.hits.items
+  pub misses : AreEnds found.search.entries.items (length found.search.entries.items) false found.misses.items
+  pub one_hit_each : length found.hits.items ≡ length view.nodes
+  pub one_miss_each : length found.misses.items ≡ length view.nodes

@@ -1,0 +1,69 @@
+-- The state of a search, and how it goes on.
+use Rattle.std.specs.Prelude.{◌≡◌, ◌⊎◌, ℕ, ◌<◌, ◌≤◌, ◌^◌, List, [], ◌∷◌, ◌++◌, length, Option, Some, None, slice_get, slice_set, slice_index_or}
+use Rattle.std.specs.List.Sorted.{IsStrictlyIncreasing}
+use Rattle.path_trail.specs.Trail.{node_at}
+use Rattle.set_view.specs.View.{View}
+use Rattle.focus_plain.specs.declared.search.Search.{Search}
+use Rattle.focus_plain.specs.Entries.{set_at, IsPlace, trail_of, seen_of, latest_at, next_of, place_of, IsCourse, IsBetween}
+
+-- the first list is a front of the second
+abbrev pub IsLonger : {X : Type 0} → List X → List X → Type 0
+IsLonger {X} xs ys = (more : List X) × (ys ≡ xs ++ more)
+
+-- the second list has the elements of the first, and perhaps one more
+abbrev pub Grows : {X : Type 0} → List X → List X → Type 0
+Grows {X} xs ys = (more : List X) × (length more ≤ 1) × (ys ≡ xs ++ more)
+
+-- the numbers of each set rise
+abbrev pub AreRising : List (List ℕ) → Type 0
+AreRising sets = (place : ℕ) → place < length sets → IsStrictlyIncreasing (slice_index_or sets place [])
+
+-- the links of a search: entries have numbers of 32 bits, the first set is the one without numbers, each place is one
+-- of the table's, and the entries at a node are linked from the last one back
+pub record AreLinked (search : Search) : Type 0 where
+  pub few : length search.entries.items < 2 ^ 32
+  pub few_sets : length search.sets.items ≤ length search.entries.items
+  pub first : slice_get search.sets.items 0 ≡ Some []
+  pub rising : AreRising search.sets.items
+  pub places : (number : ℕ) → number < length search.entries.items
+      → IsPlace search.sets.items (place_of (slice_get search.entries.items number))
+  pub inside : (number : ℕ) → number < length search.entries.items
+      → node_at (trail_of search.entries.items) number < length search.latest.items
+  pub latest : (n number : ℕ) → latest_at search.latest.items n ≡ Some number
+      → (number < length search.entries.items) × (node_at (trail_of search.entries.items) number ≡ n)
+  pub next : (number other : ℕ) → number < length search.entries.items
+      → next_of (slice_get search.entries.items number) ≡ Some other
+      → (other < number)
+      × (node_at (trail_of search.entries.items) other ≡ node_at (trail_of search.entries.items) number)
+
+-- a search: linked, with a last entry for each node, and each entry sound
+pub record IsSearch (view : View) (block : ℕ) (search : Search) : Type 0 where
+  pub linked : AreLinked search
+  pub one_each : length search.latest.items ≡ length view.nodes
+  pub course : IsCourse view block (trail_of search.entries.items) (seen_of search.sets.items search.entries.items)
+
+-- the later search has all that the earlier one had
+pub record Extends (old new : Search) : Type 0 where
+  pub trail : IsLonger (trail_of old.entries.items) (trail_of new.entries.items)
+  pub seen : IsLonger (seen_of old.sets.items old.entries.items) (seen_of new.sets.items new.entries.items)
+  pub sets : IsLonger old.sets.items new.sets.items
+
+-- one entry was added, for an edge from an entry to a node, where this younger set is left
+pub record IsAdded (old new : Search) (from to : ℕ) (younger : Option (List ℕ)) : Type 0 where
+  pub place : Option ℕ
+  pub kept : IsPlace new.sets.items place
+  pub value : set_at new.sets.items place ≡ younger
+  pub sets : Grows old.sets.items new.sets.items
+  pub rising : AreRising new.sets.items
+  pub few : length new.entries.items < 2 ^ 32
+  pub entries : new.entries.items
+      ≡ old.entries.items
+      ++ record { node = to; younger = place; earlier = Some from; next = latest_at old.latest.items to } ∷ []
+  pub latest : new.latest.items ≡ slice_set old.latest.items to (Some (length old.entries.items))
+
+-- an edge from an entry was followed, with this younger set
+abbrev pub IsFollowed : Search → Search → ℕ → Option ℕ → Option (List ℕ) → Type 0
+IsFollowed old new from None younger = new ≡ old
+IsFollowed old new from (Some to) younger =
+    ((new ≡ old) × IsBetween (trail_of old.entries.items) (seen_of old.sets.items old.entries.items) to younger)
+    ⊎ IsAdded old new from to younger

@@ -1,0 +1,94 @@
+// Where a search found hits and misses.
+ghost use Rattle.std.specs.Prelude.{◌≡◌, ◌<◌, ◌^◌, ℕ, length, Some, IfOk};
+ghost use Rattle.transition_spec.specs.Path.{IsPath};
+ghost use Rattle.transition_spec.specs.Named.{Names};
+ghost use Rattle.path_model.specs.Graph.{graph_step};
+ghost use Rattle.path_trail.specs.Trail.{node_at, IsTrail};
+ghost use Rattle.focus_plain.specs.Entries.{trail_of};
+ghost use Rattle.focus_plain.specs.Ends.{AreEnds, IsNoted, IsFound};
+ghost use Rattle.focus_plain.specs.Outcomes.{IsWayOf};
+
+use crate::search::{Entry, Search, find_entries};
+use path_model::{Graph, choices_of};
+use path_trail::{Choices, Way, trace};
+use set_view::SetView;
+use std::alloc::{AllocError, Global};
+
+/// A search for a block that is done, and for each node the first entry with a small younger set and the first with
+/// none.
+#[derive(Drop)]
+pub(crate) struct Found {
+    pub block: u16,
+    pub search: Search,
+    pub hits: Vec<Option<u32>>,
+    pub misses: Vec<Option<u32>>,
+}
+
+/// Searches for the block. An error is want of memory.
+pub(crate) fn find(alloc: Global, view: &SetView, block: u16) -> Result<Found, AllocError>
+    ensures block { IfOk result (λ found. found.block ≡ block) }
+    ensures found { IfOk result (λ found. IsFound view.now found) }
+{
+    let search = find_entries(alloc, view, block)?;
+    let count = view.graph().nodes().len();
+    let hits = ends(alloc, &search.entries, count, true)?;
+    let misses = ends(alloc, &search.entries, count, false)?;
+    Ok(Found {
+        block,
+        search,
+        hits,
+        misses,
+    })
+}
+
+// For each node the first of its entries with a small younger set, or the first with none.
+fn ends(
+    alloc: Global,
+    entries: &[Entry],
+    count: usize,
+    small: bool,
+) -> Result<Vec<Option<u32>>, AllocError>
+    requires inside { (number : ℕ) → number < length entries.now → node_at (trail_of entries.now) number < count }
+    requires few { length entries.now < 2 ^ 32 }
+    ensures ends { IfOk result (λ ends. AreEnds entries.now (length entries.now) small ends.items) }
+    ensures one_each { IfOk result (λ ends. length ends.items ≡ count) }
+{
+    let mut ends = vec![in alloc; None; count]?;
+    for index in 0..entries.len() {
+        let entry = entries[index];
+        if entry.younger.is_some() == small {
+            note(&mut ends, entry.node, index as u32);
+        }
+    }
+    Ok(ends)
+}
+
+// Notes the number for the node, unless there is one before it.
+fn note(ends: &mut [Option<u32>], node: u32, number: u32)
+    requires { node < length ends.old }
+    ensures { IsNoted ends.old ends.new node number }
+{
+    let end = &mut ends[node as usize];
+    if end.is_none() {
+        *end = Some(number);
+    }
+}
+
+/// The way of the path that an entry stands for. An error is want of memory.
+pub(crate) fn way_of(
+    alloc: Global,
+    graph: &Graph,
+    search: &Search,
+    entry: u32,
+) -> Result<Way, AllocError>
+    requires trail { IsTrail graph.now (trail_of search.now.entries.items) }
+    requires inside { entry < length search.now.entries.items }
+    ensures { IfOk result (λ way. IsWayOf graph.now (trail_of search.now.entries.items) entry way) }
+{
+    let path = trace(alloc, graph, search, entry)?;
+    let letters = choices_of(alloc, graph, &path)?;
+    Ok(Way {
+        steps: path.len() as u64,
+        choices: Choices::from_letters(letters),
+    })
+}

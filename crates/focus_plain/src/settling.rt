@@ -1,0 +1,189 @@
+// The least and the most younger sets where a block is fetched, with the ways that bear out its fate there.
+ghost use Rattle.std.specs.Prelude.{◌≡◌, ◌<◌, length, map, [], ◌∷◌, ◌++◌, if◌then◌else◌, Some, true, false, IfOk, OnOk};
+ghost use Rattle.std.specs.List.{All};
+ghost use Rattle.focus_spec.specs.Younger.{fetch_at};
+ghost use Rattle.set_view.specs.View.{View, IsView};
+ghost use Rattle.focus_values.specs.Exact.{AreExact};
+ghost use Rattle.focus_plain.specs.Ends.{IsFound};
+ghost use Rattle.focus_plain.specs.Judged.{AreFetchers, IsEnd};
+ghost use Rattle.focus_plain.specs.Settled.{IsFate, IsPlainPlace, AreAlike};
+
+use crate::ends::{Found, find, way_of};
+use focus_values::{YoungerSets, younger_sets};
+use path_trail::Way;
+use plain_family::PlainFamily;
+use set_view::{SetView, view_laws};
+use std::alloc::{AllocError, Global};
+
+/// A node that fetches a block, with a way to a hit there and one to a miss, each exactly where some path is one.
+#[derive(Debug, Drop)]
+pub struct Fate {
+    pub node: u32,
+    pub hit: Option<Way>,
+    pub miss: Option<Way>,
+}
+
+/// A node that fetches a block, with the block's least and most younger sets before it.
+#[derive(Drop)]
+pub struct PlainPlace {
+    pub node: u32,
+    /// Those with fewer blocks than the set has ways that include no other.
+    pub least: PlainFamily,
+    /// Those that no other includes; `None` exactly where some path that ends in the node misses.
+    pub most: Option<PlainFamily>,
+}
+
+/// What is settled of a block, at each node that fetches it, rising by node.
+#[derive(Drop)]
+pub struct PlainSettled {
+    pub places: Vec<PlainPlace>,
+    pub fates: Vec<Fate>,
+}
+
+/// The least and the most younger sets of a block, and the fates that ways bear out, at each node that fetches it,
+/// rising by node. The block is told by its local number.
+///
+/// It solves for the sets (`focus_values::younger_sets` says what they cost), and searches the graph once as `judge`
+/// does. An error is want of memory.
+pub fn settle(alloc: Global, view: &SetView, block: u16) -> Result<PlainSettled, AllocError>
+    requires { block < length view.now.blocks }
+    ensures places { IfOk result (λ settled.
+        AreFetchers view.now.fetches block (map (λ place. place.node) settled.places.items)) }
+    ensures fates { IfOk result (λ settled.
+        AreFetchers view.now.fetches block (map (λ fate. fate.node) settled.fates.items)) }
+    ensures sets { IfOk result (λ settled. All (IsPlainPlace view.now block) settled.places.items) }
+    ensures ends { IfOk result (λ settled. All (IsFate view.now) settled.fates.items) }
+    ensures alike { IfOk result (λ settled. AreAlike settled.places.items settled.fates.items) }
+{
+    view_laws();
+    let blocks = view.blocks();
+    prove!((block as usize) < blocks.len());
+    let found = find(alloc, view, block)?;
+    let fates = fates(alloc, view, &found)?;
+    let sets = younger_sets(alloc, view, block)?;
+    let places = places(alloc, view, block, sets)?;
+    Ok(PlainSettled { places, fates })
+}
+
+// The younger sets at the nodes that fetch the block.
+fn places(
+    alloc: Global,
+    view: &SetView,
+    block: u16,
+    sets: Vec<YoungerSets>,
+) -> Result<Vec<PlainPlace>, AllocError>
+    requires view { IsView view.now }
+    requires one_each { length sets.items ≡ length view.now.nodes }
+    requires exact { AreExact view.now block sets.items }
+    ensures nodes { IfOk result (λ places.
+        AreFetchers view.now.fetches block (map (λ place. place.node) places.items)) }
+    ensures sets { IfOk result (λ places. All (IsPlainPlace view.now block) places.items) }
+{
+    let mut places = Vec::new(alloc);
+    let mut node = 0;
+    for younger in sets {
+        let fetches = view.fetch(node) == Some(block);
+        keep(&mut places, fetches, node, younger)?;
+        node += 1;
+    }
+    Ok(places)
+}
+
+// Keeps the younger sets before this node, if it fetches the block.
+fn keep(
+    places: &mut Vec<PlainPlace>,
+    fetches: bool,
+    node: u32,
+    younger: YoungerSets,
+) -> Result<(), AllocError>
+    ensures { OnOk result (places.new.items
+        ≡ (if fetches
+        then places.old.items ++ record { node = node; least = younger.least; most = younger.most } ∷ []
+        else places.old.items)) }
+{
+    if fetches {
+        places.push(placed(node, younger))?;
+    }
+    Ok(())
+}
+
+// The younger sets before this node.
+fn placed(node: u32, younger: YoungerSets) -> PlainPlace
+    ensures { result ≡ record { node = node; least = younger.least; most = younger.most } }
+{
+    let YoungerSets { least, most } = younger;
+    PlainPlace { node, least, most }
+}
+
+// The fates at the nodes that fetch the block.
+fn fates(alloc: Global, view: &SetView, found: &Found) -> Result<Vec<Fate>, AllocError>
+    requires view { IsView view.now }
+    requires found { IsFound view.now found.now }
+    ensures nodes { IfOk result (λ fates.
+        AreFetchers view.now.fetches found.now.block (map (λ fate. fate.node) fates.items)) }
+    ensures ends { IfOk result (λ fates. All (IsFate view.now) fates.items) }
+{
+    let mut fates = Vec::new(alloc);
+    for node in 0..view.graph().nodes().len() as u32 {
+        if view.fetch(node) == Some(found.block) {
+            fates.push(fate_at(alloc, view, found, node)?)?;
+        }
+    }
+    Ok(fates)
+}
+
+// The fate at a node that fetches the block.
+fn fate_at(alloc: Global, view: &SetView, found: &Found, node: u32) -> Result<Fate, AllocError>
+    requires view { IsView view.now }
+    requires found { IsFound view.now found.now }
+    requires fetches { fetch_at view.now.fetches node ≡ Some found.now.block }
+    requires inside { node < length view.now.nodes }
+    ensures node { IfOk result (λ fate. fate.node ≡ node) }
+    ensures fate { IfOk result (λ fate. IsFate view.now fate) }
+{
+    Ok(Fate {
+        node,
+        hit: hit_at(alloc, view, found, node)?,
+        miss: miss_at(alloc, view, found, node)?,
+    })
+}
+
+// A way to a hit at a node that fetches the block, if some path is one.
+fn hit_at(
+    alloc: Global,
+    view: &SetView,
+    found: &Found,
+    node: u32,
+) -> Result<Option<Way>, AllocError>
+    requires view { IsView view.now }
+    requires found { IsFound view.now found.now }
+    requires fetches { fetch_at view.now.fetches node ≡ Some found.now.block }
+    requires inside { node < length view.now.nodes }
+    ensures { IfOk result (λ hit. IsEnd view.now node true hit) }
+{
+    view_laws();
+    match found.hits[node as usize] {
+        Some(hit) => Ok(Some(way_of(alloc, view.graph(), &found.search, hit)?)),
+        None => Ok(None),
+    }
+}
+
+// A way to a miss at a node that fetches the block, if some path is one.
+fn miss_at(
+    alloc: Global,
+    view: &SetView,
+    found: &Found,
+    node: u32,
+) -> Result<Option<Way>, AllocError>
+    requires view { IsView view.now }
+    requires found { IsFound view.now found.now }
+    requires fetches { fetch_at view.now.fetches node ≡ Some found.now.block }
+    requires inside { node < length view.now.nodes }
+    ensures { IfOk result (λ miss. IsEnd view.now node false miss) }
+{
+    view_laws();
+    match found.misses[node as usize] {
+        Some(miss) => Ok(Some(way_of(alloc, view.graph(), &found.search, miss)?)),
+        None => Ok(None),
+    }
+}

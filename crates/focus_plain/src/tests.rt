@@ -1,0 +1,152 @@
+use crate::{Outcome, judge, settle};
+use cache_geom::Geometry;
+use path_model::{Graph, Node, ends_in_hit, follow};
+use path_trail::Way;
+use set_view::view;
+use std::alloc::Global;
+use std::test::Fail;
+
+// Blocks 0 and 1, then back to the first node or on to block 0 again.
+const LOOP: [Node; 3] = [
+    Node {
+        at: 0,
+        first: Some(1),
+        second: None,
+    },
+    Node {
+        at: 4,
+        first: Some(2),
+        second: Some(0),
+    },
+    Node {
+        at: 0,
+        first: None,
+        second: None,
+    },
+];
+
+// Block 0, then block 1, or blocks 2 and 3, and then block 0 again.
+const FORK: [Node; 5] = [
+    Node {
+        at: 0,
+        first: Some(1),
+        second: Some(2),
+    },
+    Node {
+        at: 4,
+        first: Some(3),
+        second: None,
+    },
+    Node {
+        at: 8,
+        first: Some(4),
+        second: None,
+    },
+    Node {
+        at: 0,
+        first: None,
+        second: None,
+    },
+    Node {
+        at: 12,
+        first: Some(3),
+        second: None,
+    },
+];
+
+// Whether this way leads to the node, and hits there as told.
+fn leads(
+    alloc: Global,
+    graph: &Graph,
+    geometry: &Geometry,
+    way: &Way,
+    node: u32,
+    hits: bool,
+) -> Result<bool, Fail> {
+    match follow(alloc, graph, way.choices.letters(), way.steps)? {
+        None => Ok(false),
+        Some(path) => Ok(path.last() == Some(&node) && ends_in_hit(graph, geometry, &path) == hits),
+    }
+}
+
+// What an outcome is, by a letter.
+fn letter(outcome: &Outcome) -> char {
+    match outcome {
+        Outcome::Hits => 'h',
+        Outcome::Misses => 'm',
+        Outcome::Both { .. } => 'b',
+    }
+}
+
+#[test]
+fn a_node_is_judged_by_all_paths_that_end_there(rt: HostRuntime) -> Result<(), Fail> {
+    let alloc = rt.alloc();
+    for (nodes, ways, block, expected) in [
+        (LOOP.as_slice(), 1, 0, [(0, 'm'), (2, 'm')].as_slice()),
+        (LOOP.as_slice(), 2, 0, [(0, 'b'), (2, 'h')].as_slice()),
+        (LOOP.as_slice(), 2, 1, [(1, 'b')].as_slice()),
+        (FORK.as_slice(), 1, 0, [(0, 'm'), (3, 'm')].as_slice()),
+        (FORK.as_slice(), 2, 0, [(0, 'm'), (3, 'b')].as_slice()),
+        (FORK.as_slice(), 3, 0, [(0, 'm'), (3, 'h')].as_slice()),
+    ] {
+        let graph = Graph::new(Vec::from_slice(alloc, nodes)?).expect(&rt, "a graph");
+        let geometry = Geometry::new(4, 1, ways).expect(&rt, "in range");
+        assert!(rt; 0 < geometry.sets());
+        let seen = view(alloc, &graph, &geometry, 0)?;
+        assert!(rt; (block as usize) < seen.blocks().len());
+        let judged = judge(alloc, &seen, block)?;
+        assert_eq!(rt; judged.len(), expected.len());
+        for (found, (node, kind)) in judged.iter().zip(expected) {
+            assert_eq!(rt; found.node, *node);
+            assert_eq!(rt; letter(&found.outcome), *kind, "{ways} ways, block {block}");
+            if let Outcome::Both { hit, miss } = &found.outcome {
+                assert!(rt; leads(alloc, &graph, &geometry, hit, *node, true)?);
+                assert!(rt; leads(alloc, &graph, &geometry, miss, *node, false)?);
+            }
+        }
+    }
+    Ok(())
+}
+
+#[test]
+fn what_is_settled_has_ways_and_sets_where_paths_are(rt: HostRuntime) -> Result<(), Fail> {
+    let alloc = rt.alloc();
+    let graph = Graph::new(Vec::from_slice(alloc, &LOOP)?).expect(&rt, "a graph");
+    let geometry = Geometry::new(4, 1, 2).expect(&rt, "in range");
+    assert!(rt; 0 < geometry.sets());
+    let seen = view(alloc, &graph, &geometry, 0)?;
+    assert!(rt; 0 < seen.blocks().len());
+    let settled = settle(alloc, &seen, 0)?;
+    let expected = [
+        (0, (3, "t"), Some((1, "")), false),
+        (2, (3, "n"), None, true),
+    ];
+    assert_eq!(rt; settled.fates.len(), expected.len());
+    for (fate, (node, hit, miss, kept)) in settled.fates.iter().zip(&expected) {
+        assert_eq!(rt; fate.node, *node);
+        assert_eq!(rt;
+            steps_and_letters(&fate.hit),
+            Some((hit.0, hit.1.as_bytes()))
+        );
+        assert_eq!(rt;
+            steps_and_letters(&fate.miss),
+            miss.map(|way| (way.0, way.1.as_bytes()))
+        );
+        assert!(rt; *kept || fate.miss.is_some());
+    }
+    assert_eq!(rt; settled.places.len(), expected.len());
+    for (place, (node, _hit, _miss, kept)) in settled.places.iter().zip(&expected) {
+        assert_eq!(rt; place.node, *node);
+        assert_eq!(rt; place.least.sets().len(), 1);
+        assert_eq!(rt; place.most.is_some(), *kept);
+    }
+    Ok(())
+}
+
+// The steps and the choices of a way, if there is one.
+fn steps_and_letters(way: &Option<Way>) -> Option<(u64, &[u8])> {
+    match way {
+        None => None,
+        Some(way) => Some((way.steps, way.choices.letters())),
+    }
+}
