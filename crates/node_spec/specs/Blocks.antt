@@ -1,0 +1,36 @@
+-- How many blocks of a set some addresses lie in. An analysis of a set takes so many at most.
+use Rattle.std.specs.Prelude.{◌≡◌, ◌↔◌, ℕ, ◌<◌, ◌≤◌, List, length, Some}
+use Rattle.std.specs.List.{Contains}
+use Rattle.std.specs.List.Sorted.{IsStrictlyIncreasing}
+use Rattle.cache_spec.specs.Geometry.{Geometry}
+use Rattle.focus_spec.specs.Younger.{block_in}
+
+-- the most blocks of a set that an analysis of it takes
+abbrev pub block_limit : ℕ
+block_limit = 1024
+
+-- one of the addresses lies in this block of the set
+abbrev pub LieIn : List ℕ → Geometry → ℕ → ℕ → Type 0
+LieIn addresses g set block = (address : ℕ) × Contains addresses address × (block_in g set address ≡ Some block)
+
+-- the addresses lie in so many blocks of the set
+pub record HaveBlocks (addresses : List ℕ) (g : Geometry) (set count : ℕ) : Type 0 where
+  pub blocks : List ℕ
+  pub rising : IsStrictlyIncreasing blocks
+  pub members : (block : ℕ) → Contains blocks block ↔ LieIn addresses g set block
+  pub counted : length blocks ≡ count
+
+-- they lie in no more of them than the limit
+abbrev pub HaveFew : List ℕ → Geometry → ℕ → Type 0
+HaveFew addresses g set = (count : ℕ) × HaveBlocks addresses g set count × (count ≤ block_limit)
+
+-- the same of each set
+abbrev pub HaveFewInAll : List ℕ → Geometry → Type 0
+HaveFewInAll addresses g = (set : ℕ) → set < g.sets → HaveFew addresses g set
+
+-- this is the first set in which they lie in more blocks than the limit, and in this many
+pub record HaveMany (addresses : List ℕ) (g : Geometry) (set count : ℕ) : Type 0 where
+  pub inside : set < g.sets
+  pub earlier : (other : ℕ) → other < set → HaveFew addresses g other
+  pub has : HaveBlocks addresses g set count
+  pub many : block_limit < count

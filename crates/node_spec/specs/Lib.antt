@@ -1,0 +1,5 @@
+pub use Rattle.report_spec.specs.Right
+pub use Rattle.path_model.specs.Graph
+pub mod Verdict
+pub mod Blocks
+pub mod Plan

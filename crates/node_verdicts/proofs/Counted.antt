@@ -1,0 +1,108 @@
+-- The fetched blocks of a set, told by nodes and by their addresses.
+use Rattle.std.proofs.Common.{◌≡◌, ℕ, zero, suc, ◌<◌, List, [], ◌∷◌, length, refl, ap, sym, ◌∙◌, subst, arith, Option, Some, None}
+use Rattle.std.specs.Prelude.{Bool, true, false, ◌==◌, if◌then◌else◌, option_map}
+use Rattle.std.specs.List.{Contains}
+use Rattle.std.proofs.lemmas.Bool.Decides.{nat_tests}
+use Rattle.cache_spec.specs.Geometry.{Geometry, block_of, set_of}
+use Rattle.path_model.specs.declared.graph.Node.{Node}
+use Rattle.path_model.specs.Graph.{address_of}
+use Rattle.focus_spec.specs.Younger.{block_in, named, fetch_at}
+use Rattle.set_view.specs.View.{View, IsView, AreFetched, HasFetched}
+use Rattle.node_spec.specs.Blocks.{HaveBlocks, HaveFew}
+use Rattle.node_verdicts.specs.Verdicts.{addresses_of, set_at}
+
+-- an address is that of a node
+node_of : (nodes : List Node) (address : ℕ) → Contains (addresses_of nodes) address
+    → (n : ℕ) × (n < length nodes) × (address_of nodes n ≡ address)
+node_of [] address (k, lt, is) = absurd (omega (arith, lt))
+node_of (node ∷ nodes) address (zero, lt, is) = (0, omega arith, is)
+node_of (node ∷ nodes) address (suc k, lt, is) =
+    let (n, inside, at) = node_of nodes address (k, omega (arith, lt), is) in (suc n, omega (arith, inside), at)
+
+-- the address of a node is one of them
+has_address : (nodes : List Node) (n : ℕ) → n < length nodes → Contains (addresses_of nodes) (address_of nodes n)
+has_address [] n inside = absurd (omega (arith, inside))
+has_address (node ∷ nodes) zero inside = (0, omega arith, refl)
+has_address (node ∷ nodes) (suc n) inside =
+    let (k, lt, is) = has_address nodes n (omega (arith, inside)) in (suc k, omega (arith, lt), is)
+
+-- the blocks that the nodes fetch are those that their addresses lie in
+blocks_counted : (nodes : List Node) (g : Geometry) (set : ℕ) (blocks : List ℕ) → AreFetched nodes g set blocks
+    → HaveBlocks (addresses_of nodes) g set (length blocks)
+blocks_counted nodes g set blocks fetched = record {
+  blocks = blocks;
+  rising = fetched.rising;
+  members = λ block. (
+    λ has. let (n, inside, is) = (fetched.members block).0 has in (address_of nodes n, has_address nodes n inside, is),
+    λ (address, has, is).
+        let (n, inside, at) = node_of nodes address has in
+        (fetched.members block).1 (n, inside, subst (λ (a : ℕ). block_in g set a ≡ Some block) (sym at) is),
+  );
+  counted = refl;
+}
+
+-- few blocks of a set that has a view are fetched
+pub few_viewed : (nodes : List Node) (g : Geometry) (view : View) → IsView view → view.nodes ≡ nodes → view.geometry ≡ g
+    → HaveFew (addresses_of nodes) g view.set
+few_viewed nodes g view is nodes_is geometry_is =
+    subst (λ (ns : List Node). HaveFew (addresses_of ns) g view.set) nodes_is
+    (subst (λ (h : Geometry). HaveFew (addresses_of view.nodes) h view.set) geometry_is
+    (length view.blocks, blocks_counted view.nodes view.geometry view.set view.blocks is.blocks, is.few))
+
+-- as many blocks of a set as its nodes fetch, their addresses lie in
+pub many_fetched : (nodes : List Node) (g : Geometry) (set count : ℕ) → HasFetched nodes g set count
+    → HaveBlocks (addresses_of nodes) g set count
+many_fetched nodes g set count (blocks, fetched, long) =
+    subst (λ (n : ℕ). HaveBlocks (addresses_of nodes) g set n) long (blocks_counted nodes g set blocks fetched)
+
+-- an address in a block of the set lies in the set: by the test of its set
+set_is_by : (g : Geometry) (set address block : ℕ) (same : Bool) → (set_of g (block_of g address) == set) ≡ same
+    → (if same then Some (block_of g address) else None) ≡ Some block → set_of g (block_of g address) ≡ set
+set_is_by g set address block true is some = grind (arith, nat_tests, is)
+set_is_by g set address block false is none = absurd (cc none)
+
+-- the same without the test
+set_is : (g : Geometry) (set address block : ℕ) → block_in g set address ≡ Some block → set_of g (block_of g address) ≡ set
+set_is g set address block some = set_is_by g set address block (set_of g (block_of g address) == set) refl some
+
+-- where no node fetches the set no block of it is fetched
+pub few_unfetched : (nodes : List Node) (g : Geometry) (set : ℕ) → ((n : ℕ) → n < length nodes → set_at nodes g n ≡ set → ⊥)
+    → HaveFew (addresses_of nodes) g set
+few_unfetched nodes g set none = (
+  0,
+  record {
+    blocks = [];
+    rising = λ k inside. absurd (omega (arith, inside));
+    members = λ block. (
+      λ (k, lt, is). absurd (omega (arith, lt)),
+      λ (address, has, is).
+          let (n, inside, at) = node_of nodes address has in
+          absurd (none n inside (ap (λ (a : ℕ). set_of g (block_of g a)) at ∙ set_is g set address block is)),
+    );
+    counted = refl;
+  },
+  omega arith,
+)
+
+-- an address that lies in the set lies in a block of it: by the test of its set
+in_set_by : (g : Geometry) (set address : ℕ) (same : Bool) → (set_of g (block_of g address) == set) ≡ same
+    → set_of g (block_of g address) ≡ set
+    → (if same then Some (block_of g address) else None) ≡ Some (block_of g address)
+in_set_by g set address true is at = refl
+in_set_by g set address false is at = absurd (grind (arith, nat_tests, is, at))
+
+-- where a local number names a block there is such a number
+some_local : (blocks : List ℕ) (local : Option ℕ) (block : ℕ) → option_map (named blocks) local ≡ Some block → (l : ℕ) × (local ≡ Some l)
+some_local blocks None block is = absurd (cc is)
+some_local blocks (Some l) block is = (l, refl)
+
+-- a node that fetches the set fetches one of its viewed blocks, by the local number of that block
+pub local_there : (view : View) → IsView view → (n : ℕ) → n < length view.nodes → set_at view.nodes view.geometry n ≡ view.set
+    → (local : ℕ) × (fetch_at view.fetches n ≡ Some local) × (local < length view.blocks)
+local_there view is n inside at =
+    let address = address_of view.nodes n in
+    let g = view.geometry in
+    let block : block_in g view.set address ≡ Some (block_of g address) =
+    in_set_by g view.set address (set_of g (block_of g address) == view.set) refl at in
+    let (local, found) = some_local view.blocks (fetch_at view.fetches n) (block_of g address) (is.fetches n inside ∙ block) in
+    (local, found, is.within n local found)

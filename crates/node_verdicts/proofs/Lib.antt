@@ -1,0 +1,4 @@
+pub mod Noted
+pub mod Counted
+pub mod Viewed
+pub mod Sets

@@ -1,0 +1,16 @@
+use Rattle.std.proofs.Common.{length}
+use Rattle.std.specs.List.{All}
+use Rattle.node_verdicts.specs.Verdicts.{KeepRight}
+use Rattle.node_verdicts.specs.Settled.{IsJudged, AreNoted}
+use Rattle.node_verdicts.proofs.settle.settle_block.Given as goal
+
+-- what is left is right, and each node that was judged has its verdict or is left
+abbrev pub invariant-loop-judged : goal.invariant-loop-judged
+invariant-loop-judged l = record {
+  keeps : KeepRight l.view.nodes l.view.geometry l.initial.verdicts.items l.verdicts.items;
+  right : All (IsJudged l.view l.block) l.found.items;
+  noted : AreNoted l.view l.block l.found.items l.verdicts.items;
+}
+
+abbrev pub decreases-loop-judged : goal.decreases-loop-judged
+decreases-loop-judged l = length l.found.items

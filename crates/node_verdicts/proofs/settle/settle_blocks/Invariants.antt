@@ -1,0 +1,9 @@
+use Rattle.node_verdicts.specs.Verdicts.{KeepRight, AreRightBelow}
+use Rattle.node_verdicts.proofs.settle.settle_blocks.Given as goal
+
+-- what was right is right, and so are the verdicts of the first blocks
+abbrev pub invariant-loop-block : goal.invariant-loop-block
+invariant-loop-block l = record {
+  keeps : KeepRight l.view.nodes l.view.geometry l.initial.verdicts.items l.verdicts.items;
+  right : AreRightBelow l.view l.block l.verdicts.items;
+}

@@ -1,0 +1,113 @@
+// The verdicts of the nodes that fetch one set, block by block.
+ghost use Rattle.std.specs.Prelude.{◌≡◌, ◌<◌, false, length, slice_set, IfErr, OnOk};
+ghost use Rattle.node_spec.specs.Blocks.{HaveFew};
+ghost use Rattle.set_view.specs.View.{IsView};
+ghost use Rattle.node_verdicts.specs.Verdicts.{KeepRight, AreRightBelow, AreRightIn, AreRightOf};
+ghost use Rattle.node_verdicts.specs.Verdicts.{IsFaultOf, IsUnfetched, addresses_of, verdict_of};
+
+use crate::verdicts::VerdictsFault;
+use cache_geom::Geometry;
+use focus_plain::{Judged, Outcome, judge};
+use path_model::Graph;
+use report_spec::Verdict;
+use set_view::{SetView, view};
+use std::alloc::{AllocError, Global};
+
+// Notes the verdict of each node that fetches the set, which no node does where it has no mark.
+pub(crate) fn settle_marked(
+    alloc: Global,
+    graph: &Graph,
+    geometry: &Geometry,
+    set: u32,
+    marked: bool,
+    verdicts: &mut Vec<Verdict>,
+) -> Result<(), VerdictsFault>
+    requires set { set < geometry.now.sets }
+    requires marked { marked ≡ false → IsUnfetched graph.now geometry.now set }
+    requires one_each { length verdicts.old.items ≡ length graph.now }
+    ensures keeps { KeepRight graph.now geometry.now verdicts.old.items verdicts.new.items }
+    ensures right { OnOk result (AreRightIn graph.now geometry.now set verdicts.new.items) }
+    ensures few { OnOk result (HaveFew (addresses_of graph.now) geometry.now set) }
+    ensures fault { IfErr result (λ fault. IsFaultOf graph.now geometry.now set fault) }
+{
+    if !marked {
+        return Ok(());
+    }
+    settle_set(alloc, graph, geometry, set, verdicts)
+}
+
+// Notes the verdict of each node that fetches the set.
+fn settle_set(
+    alloc: Global,
+    graph: &Graph,
+    geometry: &Geometry,
+    set: u32,
+    verdicts: &mut Vec<Verdict>,
+) -> Result<(), VerdictsFault>
+    requires set { set < geometry.now.sets }
+    requires one_each { length verdicts.old.items ≡ length graph.now }
+    ensures keeps { KeepRight graph.now geometry.now verdicts.old.items verdicts.new.items }
+    ensures right { OnOk result (AreRightIn graph.now geometry.now set verdicts.new.items) }
+    ensures few { OnOk result (HaveFew (addresses_of graph.now) geometry.now set) }
+    ensures fault { IfErr result (λ fault. IsFaultOf graph.now geometry.now set fault) }
+{
+    let view = view(alloc, graph, geometry, set)?;
+    settle_blocks(alloc, &view, verdicts)?;
+    Ok(())
+}
+
+// Notes the verdict of each node that fetches a block of the view.
+fn settle_blocks(
+    alloc: Global,
+    view: &SetView,
+    verdicts: &mut Vec<Verdict>,
+) -> Result<(), AllocError>
+    requires view { IsView view.now }
+    requires one_each { length verdicts.old.items ≡ length view.now.nodes }
+    ensures keeps { KeepRight view.now.nodes view.now.geometry verdicts.old.items verdicts.new.items }
+    ensures right { OnOk result (AreRightBelow view.now (length view.now.blocks) verdicts.new.items) }
+{
+    for block in 0..view.blocks().len() as u16 {
+        settle_block(alloc, view, block, verdicts)?;
+    }
+    Ok(())
+}
+
+// Notes the verdict of each node that fetches the block.
+fn settle_block(
+    alloc: Global,
+    view: &SetView,
+    block: u16,
+    verdicts: &mut Vec<Verdict>,
+) -> Result<(), AllocError>
+    requires view { IsView view.now }
+    requires block { block < length view.now.blocks }
+    requires one_each { length verdicts.old.items ≡ length view.now.nodes }
+    ensures keeps { KeepRight view.now.nodes view.now.geometry verdicts.old.items verdicts.new.items }
+    ensures right { OnOk result (AreRightOf view.now block verdicts.new.items) }
+{
+    let mut found = judge(alloc, view, block)?;
+    while let Some(judged) = found.pop() {
+        note(verdicts, judged);
+    }
+    Ok(())
+}
+
+// Notes the verdict of a node.
+fn note(verdicts: &mut Vec<Verdict>, judged: Judged)
+    requires { judged.node < length verdicts.old.items }
+    ensures { verdicts.new.items ≡ slice_set verdicts.old.items judged.node (verdict_of judged.outcome) }
+{
+    verdicts[judged.node as usize] = verdict_of(judged.outcome);
+}
+
+// The verdict of a node with this outcome.
+fn verdict_of(outcome: Outcome) -> Verdict
+    ensures { result ≡ verdict_of outcome }
+{
+    match outcome {
+        Outcome::Hits => Verdict::AlwaysHit,
+        Outcome::Misses => Verdict::AlwaysMiss,
+        Outcome::Both { hit, miss } => Verdict::Unknown { hit, miss },
+    }
+}
