@@ -1,0 +1,34 @@
+use Rattle.std.proofs.Common.{ℕ, List, sym, ◌∙◌, subst, refl}
+use Rattle.std.specs.List.{Contains}
+use Rattle.std.proofs.lemmas.List.{take_all}
+use Rattle.std.proofs.lemmas.List.Elements.{Contains-get_or}
+use Rattle.std.proofs.lemmas.Option.{slice_get_read}
+use Rattle.report_plan.specs.Ending.{MayEnd}
+use Rattle.report_plan.proofs.Ends.{not-end, none-more}
+use Rattle.report_plan.proofs.merge.first_ending.Goals as goal
+
+pub bounds-verdicts-node : goal.bounds-verdicts-node
+bounds-verdicts-node c = c.requires _ (Contains-get_or c.args.here.now c.loop-node.node-index 0 c.loop-node-test.true)
+
+pub returns-then-may_end-clause-some : goal.returns-then-may_end-clause-some
+returns-then-may_end-clause-some c =
+    let listed = Contains-get_or c.args.here.now c.loop-node.node-index 0 c.loop-node-test.true in (
+      listed,
+      (
+        c.index-verdicts-node.result,
+        slice_get_read c.args.verdicts.now _ _ c.index-verdicts-node.result refl (c.requires _ listed) c.index-verdicts-node.is,
+        sym c.may_end.ensures ∙ c.if-may_end.true,
+      ),
+    )
+
+pub loop-node-preserved : goal.loop-node-preserved
+loop-node-preserved c =
+    let listed = Contains-get_or c.args.here.now c.loop-node.node-index 0 c.loop-node-test.true in
+    let has = slice_get_read c.args.verdicts.now _ _ c.index-verdicts-node.result refl (c.requires _ listed) c.index-verdicts-node.is in
+    none-more c.args.verdicts.now c.args.hits c.args.here.now c.loop-node.node-index c.loop-node-test.true c.loop-node.invariant
+    (not-end c.args.verdicts.now c.args.hits _ c.index-verdicts-node.result has (sym c.may_end.ensures ∙ c.if-may_end.false))
+
+pub returns-clause-none : goal.returns-clause-none
+returns-clause-none c =
+    let P : List ℕ → Type 0 = λ here. (n : ℕ) → Contains here n → MayEnd c.args.verdicts.now c.args.hits n → ⊥ in
+    subst P (take_all c.loop-node.node-index c.args.here.now c.loop-node-test.false) c.loop-node.invariant

@@ -1,0 +1,3 @@
+pub use Rattle.node_spec.specs.Plan
+pub mod Kept
+pub mod Ending

@@ -1,0 +1,205 @@
+// The order of the nodes, and the line at a place.
+ghost use Rattle.std.specs.Prelude.{◌≡◌, ◌<◌, ◌≤◌, length, true, false, option_map, IsTrue, IfOk, IfSome};
+ghost use Rattle.std.specs.List.{list_all};
+ghost use Rattle.elf_spec.specs.Word.{IsText};
+ghost use Rattle.report_spec.specs.Valid.{is_valid, is_valid_verdict};
+ghost use Rattle.node_spec.specs.Plan.{IsByAddress, IsByNumber, IsLineAt, IsLineOf, last_of};
+ghost use Rattle.report_plan.specs.Kept.{IsPlanOf};
+
+use crate::before::befores;
+use crate::copies::copy_verdict;
+use crate::merge::merged;
+use crate::order::in_order;
+use crate::range::{range_end, word_behind};
+use call_expand::{Expanded, Frame};
+use elf_image::Image;
+use path_model::Graph;
+use report_spec::{Line, Verdict};
+use std::alloc::{AllocError, Global};
+use std::marker::Model;
+
+/// The nodes of an expanded program in order of address, and for each a smaller node before it.
+#[derive(Drop)]
+pub struct Plan {
+    order: Vec<u32>,
+    before: Vec<u32>,
+}
+
+impl Model for Plan {
+    ghost use Rattle.report_plan.specs.Kept.{Kept};
+
+    ghost Value = { Kept };
+
+    ghost view = { λ p. record { order = p.order.items; before = p.before.items } };
+}
+
+impl Plan {
+    /// The plan of an expanded program: two numbers for each node. The error is want of memory. Sorts the nodes once.
+    pub fn new(alloc: Global, expanded: &Expanded) -> Result<Self, AllocError>
+        ensures { IfOk result (IsPlanOf expanded.now.nodes) }
+    {
+        let nodes = expanded.graph().nodes();
+        Ok(Plan {
+            order: in_order(alloc, nodes)?,
+            before: befores(alloc, nodes)?,
+        })
+    }
+
+    pub(crate) fn order(&self) -> &[u32]
+        ensures { result.now ≡ self.now.order }
+    {
+        &self.order
+    }
+
+    pub(crate) fn before(&self) -> &[u32]
+        ensures { result.now ≡ self.now.before }
+    {
+        &self.before
+    }
+
+    /// The line at a place, and the place behind it, if there is one. The plan is of this program, which has one valid
+    /// verdict for each node.
+    ///
+    /// With `contexts` a place is the number of a node, and the line is that node's. Else it is an address, and the line
+    /// is that of the least address of the text from it on: the one verdict of all nodes there, or the whole range of
+    /// words without nodes that begins there. `None` exactly where no node, or no address of the text, is left.
+    ///
+    /// The error is want of memory for the ways of the line. Takes time in the order of the range, or of the nodes where
+    /// a way has to be made.
+    pub fn line(
+        &self,
+        alloc: Global,
+        image: &Image,
+        expanded: &Expanded,
+        verdicts: &[Verdict],
+        contexts: bool,
+        from: u32,
+    ) -> Result<Option<(Line, Option<u32>)>, AllocError>
+        requires plan { IsPlanOf expanded.now.nodes self.now }
+        requires one_each { length verdicts.now ≡ length expanded.now.nodes }
+        requires valid { IsTrue (list_all is_valid_verdict verdicts.now) }
+        requires configurations { length expanded.now.configurations ≡ length expanded.now.nodes }
+        ensures valid { IfOk result (λ found. IfSome found (λ at. IsTrue (is_valid at.0))) }
+        ensures by_address { contexts ≡ false → IfOk result (λ found.
+            IsByAddress image.now expanded.now.nodes verdicts.now from found) }
+        ensures by_number { contexts ≡ true → IfOk result (λ found.
+            IsByNumber expanded.now.configurations verdicts.now from found) }
+    {
+        if contexts {
+            line_by_number(alloc, expanded, verdicts, from)
+        } else {
+            self.line_by_address(alloc, image, expanded.graph(), verdicts, from)
+        }
+    }
+
+    // The line of the least address of the text from one on, and the next address of the text behind it.
+    fn line_by_address(
+        &self,
+        alloc: Global,
+        image: &Image,
+        graph: &Graph,
+        verdicts: &[Verdict],
+        from: u32,
+    ) -> Result<Option<(Line, Option<u32>)>, AllocError>
+        requires plan { IsPlanOf graph.now self.now }
+        requires one_each { length verdicts.now ≡ length graph.now }
+        requires valid { IsTrue (list_all is_valid_verdict verdicts.now) }
+        ensures valid { IfOk result (λ found. IfSome found (λ at. IsTrue (is_valid at.0))) }
+        ensures by_address { IfOk result (λ found. IsByAddress image.now graph.now verdicts.now from found) }
+    {
+        let Some(at) = image.word_from(from) else {
+            return Ok(None);
+        };
+        let line = self.line_at(alloc, image, graph, verdicts, at)?;
+        let next = word_behind(image, last_of(&line));
+        Ok(Some((line, next)))
+    }
+
+    // The line that begins at an address of the text.
+    fn line_at(
+        &self,
+        alloc: Global,
+        image: &Image,
+        graph: &Graph,
+        verdicts: &[Verdict],
+        at: u32,
+    ) -> Result<Line, AllocError>
+        requires plan { IsPlanOf graph.now self.now }
+        requires one_each { length verdicts.now ≡ length graph.now }
+        requires valid { IsTrue (list_all is_valid_verdict verdicts.now) }
+        requires text { IsText image.now at }
+        ensures valid { IfOk result (λ line. IsTrue (is_valid line)) }
+        ensures line { IfOk result (IsLineAt image.now graph.now verdicts.now at) }
+    {
+        match merged(alloc, graph, self, verdicts, at)? {
+            Some(verdict) => Ok(Line::At { at, verdict }),
+            None => Ok(Line::Unreachable {
+                first: at,
+                last: range_end(&self.order, image, graph.nodes(), at),
+            }),
+        }
+    }
+}
+
+// The last address that a line speaks of.
+fn last_of(line: &Line) -> u32
+    ensures { result ≡ last_of line.now }
+{
+    match line {
+        Line::At { at, .. } | Line::Context { at, .. } => *at,
+        Line::Unreachable { last, .. } => *last,
+    }
+}
+
+// The line of a node, and the next number behind its own.
+fn line_by_number(
+    alloc: Global,
+    expanded: &Expanded,
+    verdicts: &[Verdict],
+    from: u32,
+) -> Result<Option<(Line, Option<u32>)>, AllocError>
+    requires one_each { length verdicts.now ≡ length expanded.now.nodes }
+    requires valid { IsTrue (list_all is_valid_verdict verdicts.now) }
+    requires configurations { length expanded.now.configurations ≡ length expanded.now.nodes }
+    ensures valid { IfOk result (λ found. IfSome found (λ at. IsTrue (is_valid at.0))) }
+    ensures by_number { IfOk result (λ found. IsByNumber expanded.now.configurations verdicts.now from found) }
+{
+    let count = expanded.graph().nodes().len() as u32;
+    if from >= count {
+        return Ok(None);
+    }
+    let line = context_line(alloc, expanded, verdicts, from)?;
+    let next = (from + 1 < count).then_some(from + 1);
+    Ok(Some((line, next)))
+}
+
+// The line of a node.
+fn context_line(
+    alloc: Global,
+    expanded: &Expanded,
+    verdicts: &[Verdict],
+    node: u32,
+) -> Result<Line, AllocError>
+    requires inside { node < length expanded.now.nodes }
+    requires one_each { length verdicts.now ≡ length expanded.now.nodes }
+    requires valid { IsTrue (list_all is_valid_verdict verdicts.now) }
+    requires configurations { length expanded.now.configurations ≡ length expanded.now.nodes }
+    ensures valid { IfOk result (λ line. IsTrue (is_valid line)) }
+    ensures line { IfOk result (IsLineOf expanded.now.configurations verdicts.now node) }
+{
+    let config = expanded.config(node);
+    Ok(Line::Context {
+        node,
+        at: config.at,
+        depth: config.depth,
+        back: back_of(expanded.top(node)),
+        verdict: copy_verdict(alloc, &verdicts[node as usize])?,
+    })
+}
+
+// The return address of an open call.
+fn back_of(call: Option<Frame>) -> Option<u32>
+    ensures { result ≡ option_map (λ frame. frame.back) call }
+{
+    call.map(|frame| frame.back)
+}

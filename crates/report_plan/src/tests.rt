@@ -1,0 +1,213 @@
+ghost use Rattle.std.specs.Prelude.{◌≡◌, ◌≤◌, length, IfOk};
+ghost use Rattle.std.specs.List.{list_all};
+ghost use Rattle.report_spec.specs.Valid.{is_letter, is_valid_way, is_valid_verdict};
+
+use crate::Plan;
+use call_expand::{Expanded, expand};
+use elf_image::Image;
+use report_spec::{Choices, Line, Verdict, Way};
+use std::alloc::{AllocError, Global};
+use std::process::Abort;
+use std::test::Fail;
+
+const STOP: u32 = 0x00100073;
+
+// A branch over a word to two calls of the function at 0x10018, and words behind each that nothing leads to.
+const WORDS: [u32; 9] = [
+    0x00000463, STOP, 0x010000ef, 0x00c000ef, STOP, STOP, 0x00008067, STOP, STOP,
+];
+
+// An executable of these words at 0x10000, where it begins.
+fn wrap(alloc: Global, words: &[u32]) -> Result<Vec<u8>, AllocError>
+    requires { length words.now ≤ 64 }
+{
+    let mut file = [
+        0x7f, 0x45, 0x4c, 0x46, 1, 1, 1, 0, 0, 0, 0, 0, 0, 0, 0, 0, 2, 0, 0xf3, 0, 1, 0, 0, 0, 0,
+        0, 1, 0, 0x34, 0, 0, 0, 0, 0, 0, 0, 0, 0, 0, 0, 0x34, 0, 0x20, 0, 1, 0, 0, 0, 0, 0, 0, 0,
+        1, 0, 0, 0, 0x54, 0, 0, 0, 0, 0, 1, 0, 0, 0, 1, 0,
+    ]
+    .to_vec(alloc)?;
+    let size = (words.len() as u32 * 4).to_le_bytes();
+    file.extend_from_slice(&size)?;
+    file.extend_from_slice(&size)?;
+    file.extend_from_slice(&[5, 0, 0, 0, 4, 0, 0, 0])?;
+    for word in words {
+        file.extend_from_slice(&word.to_le_bytes())?;
+    }
+    Ok(file)
+}
+
+fn image_of(rt: &(impl Abort + AllocGlobal)) -> Result<Image, Fail> {
+    let file = wrap(rt.alloc(), &WORDS)?;
+    assert!(rt; file.len() <= 16_777_216);
+    Ok(elf_image::read(rt.alloc(), file)?)
+}
+
+fn expanded_of(alloc: Global, image: &Image) -> Result<Expanded, Fail>
+    ensures { IfOk result (λ expanded. length expanded.configurations ≡ length expanded.nodes) }
+{
+    Ok(expand(alloc, image, image.entry())?)
+}
+
+fn way(alloc: Global, steps: u64, letters: &[u8]) -> Result<Way, AllocError> {
+    Ok(Way {
+        steps,
+        choices: Choices::from_letters(letters.to_vec(alloc)?),
+    })
+}
+
+// A verdict for each of the seven nodes.
+fn verdicts_of(alloc: Global) -> Result<Vec<Verdict>, AllocError> {
+    let hit = way(alloc, 3, b"n")?;
+    let miss = way(alloc, 5, b"")?;
+    Ok(Vec::from_array(
+        alloc,
+        [
+            Verdict::AlwaysMiss,
+            Verdict::Unknown { hit, miss },
+            Verdict::AlwaysHit,
+            Verdict::AlwaysMiss,
+            Verdict::AlwaysMiss,
+            Verdict::AlwaysHit,
+            Verdict::AlwaysHit,
+        ],
+    )?)
+}
+
+fn are_valid(verdicts: &[Verdict]) -> bool
+    ensures { result ≡ list_all is_valid_verdict verdicts.now }
+{
+    verdicts.iter().all(is_valid_verdict)
+}
+
+fn is_valid_verdict(verdict: &Verdict) -> bool
+    ensures { result ≡ is_valid_verdict verdict.now }
+{
+    match verdict {
+        Verdict::AlwaysHit | Verdict::AlwaysMiss => true,
+        Verdict::Unknown { hit, miss } => is_valid_way(hit) && is_valid_way(miss),
+    }
+}
+
+fn is_valid_way(way: &Way) -> bool
+    ensures { result ≡ is_valid_way way.now }
+{
+    way.steps > 0 && are_letters(way.choices.letters())
+}
+
+fn are_letters(letters: &[u8]) -> bool
+    ensures { result ≡ list_all is_letter letters.now }
+{
+    letters
+        .iter()
+        .all(|letter| *letter == b'n' || *letter == b't')
+}
+
+fn way_text(alloc: Global, way: &Way) -> Result<String, AllocError> {
+    let mut text = format!(in alloc; "{}", way.steps)?;
+    for letter in way.choices.letters() {
+        text.push(char::from(*letter))?;
+    }
+    Ok(text)
+}
+
+fn verdict_text(alloc: Global, verdict: &Verdict) -> Result<String, AllocError> {
+    match verdict {
+        Verdict::AlwaysHit => String::from_str(alloc, "hit"),
+        Verdict::AlwaysMiss => String::from_str(alloc, "miss"),
+        Verdict::Unknown { hit, miss } => {
+            let hit = way_text(alloc, hit)?;
+            let miss = way_text(alloc, miss)?;
+            format!(in alloc; "{hit} or {miss}")
+        }
+    }
+}
+
+fn line_text(alloc: Global, line: &Line) -> Result<String, AllocError> {
+    match line {
+        Line::At { at, verdict } => {
+            let verdict = verdict_text(alloc, verdict)?;
+            format!(in alloc; "{at:x} {verdict}")
+        }
+        Line::Context {
+            node,
+            at,
+            depth,
+            back,
+            verdict,
+        } => {
+            let verdict = verdict_text(alloc, verdict)?;
+            let back = back.unwrap_or(0);
+            format!(in alloc; "{node}: {at:x} {depth} {back:x} {verdict}")
+        }
+        Line::Unreachable { first, last } => format!(in alloc; "{first:x} to {last:x}"),
+    }
+}
+
+fn check(
+    rt: &(impl Abort + AllocGlobal),
+    contexts: bool,
+    from: u32,
+    expected: Option<(&str, Option<u32>)>,
+) -> Result<(), Fail> {
+    let alloc = rt.alloc();
+    let image = image_of(rt)?;
+    let expanded = expanded_of(alloc, &image)?;
+    let plan = Plan::new(alloc, &expanded)?;
+    let verdicts = verdicts_of(alloc)?;
+    assert!(rt; verdicts.len() == expanded.graph().nodes().len());
+    assert!(rt; are_valid(&verdicts));
+    let found = plan.line(alloc, &image, &expanded, &verdicts, contexts, from)?;
+    match (found, expected) {
+        (Some((line, next)), Some((text, place))) => {
+            let shown = line_text(alloc, &line)?;
+            assert!(rt; shown.as_str() == text, "at {from:x}: {shown}");
+            assert!(rt; next == place, "behind {from:x}");
+        }
+        (None, None) => {}
+        _ => assert!(rt; false, "at {from:x}"),
+    }
+    Ok(())
+}
+
+#[test]
+fn nodes_at_one_address_have_one_line(rt: HostRuntime) -> Result<(), Fail> {
+    for (from, line) in [
+        (0, Some(("10000 miss", Some(0x10004)))),
+        (0x10001, Some(("10004 3n or 5", Some(0x10008)))),
+        (0x10008, Some(("10008 hit", Some(0x1000c)))),
+        (0x1000c, Some(("1000c miss", Some(0x10010)))),
+        (0x10018, Some(("10018 5t or 3t", Some(0x1001c)))),
+    ] {
+        check(&rt, false, from, line)?;
+    }
+    Ok(())
+}
+
+#[test]
+fn words_without_nodes_have_one_line(rt: HostRuntime) -> Result<(), Fail> {
+    for (from, line) in [
+        (0x10014, Some(("10014 to 10014", Some(0x10018)))),
+        (0x1001c, Some(("1001c to 10020", None))),
+        (0x1001d, Some(("10020 to 10020", None))),
+        (0x10021, None),
+    ] {
+        check(&rt, false, from, line)?;
+    }
+    Ok(())
+}
+
+#[test]
+fn each_node_has_its_own_line_among_contexts(rt: HostRuntime) -> Result<(), Fail> {
+    for (from, line) in [
+        (0, Some(("0: 10000 0 0 miss", Some(1)))),
+        (1, Some(("1: 10004 0 0 3n or 5", Some(2)))),
+        (3, Some(("3: 10018 1 1000c miss", Some(4)))),
+        (5, Some(("5: 10018 1 10010 hit", Some(6)))),
+        (6, Some(("6: 10010 0 0 hit", None))),
+        (7, None),
+    ] {
+        check(&rt, true, from, line)?;
+    }
+    Ok(())
+}
