@@ -1,0 +1,192 @@
+-- What is right of nodes is right of their configurations.
+use Rattle.std.proofs.Common.{◌≡◌, ℕ, ◌<◌, List, [], ◌∷◌, length, map, refl, ap, sym, ◌∙◌, subst, arith, Some, inl, inr}
+use Rattle.std.specs.Prelude.{Bool, true, false, slice_get}
+use Rattle.std.proofs.lemmas.List.{length-map}
+use Rattle.elf_spec.specs.Image.{Image}
+use Rattle.cache_spec.specs.Geometry.{Geometry}
+use Rattle.cache_spec.specs.Contents.{ends_in_hit}
+use Rattle.transition_spec.specs.declared.way.Way.{Way}
+use Rattle.transition_spec.specs.Path.{IsPath}
+use Rattle.transition_spec.specs.Named.{Names}
+use Rattle.flow_spec.specs.Configuration.{Configuration}
+use Rattle.flow_spec.specs.Successors.{successors}
+use Rattle.path_model.specs.declared.graph.Node.{Node}
+use Rattle.path_model.specs.Graph.{graph_step, address, address_of}
+use Rattle.path_model.proofs.Reached.{node_reached}
+use Rattle.report_spec.specs.Right.{fetches_of, EndsIn, Fetches, NamesFate, IsRight}
+use Rattle.report_spec.specs.Report.{IsAt, IsUnreached}
+use Rattle.report_spec.specs.declared.line.Verdict.{Verdict}
+use Rattle.report_spec.specs.declared.line.Verdict.TheVariants.{AlwaysHit, AlwaysMiss, Unknown}
+use Rattle.call_expand.specs.Expansion.{IsGraphOf, numbered}
+use Rattle.call_expand.proofs.Paths.{path_to, path_from, choices_to, path_addresses, node_at, member_inside, element}
+use Rattle.node_spec.specs.Verdict.{path_hits, AllEnd, NamesEnd, IsNodeVerdict, IsRightAt}
+use Rattle.node_spec.specs.Plan.{IsNodeAt, IsHitWay, IsMissWay, IsMerged}
+
+module _ (image : Image) (entry : ℕ) (g : Geometry) (configurations : List Configuration) (nodes : List Node)
+    (is : IsGraphOf (successors image entry) entry configurations nodes) (Ends : Configuration → Type 0) where
+  -- a path of the graph that ends in a node of these configurations, as one of the configurations
+  ends_in : (n : ℕ) (earlier : List ℕ) → IsPath (graph_step nodes) 0 (n ∷ earlier) → Ends (numbered configurations n)
+      → EndsIn image entry Ends (map (numbered configurations) (n ∷ earlier))
+  ends_in n earlier path ends = record {
+    last = numbered configurations n;
+    earlier = map (numbered configurations) earlier;
+    path_is = refl;
+    is_path = path_to (successors image entry) entry configurations nodes is (n ∷ earlier) path;
+    ends = ends;
+  }
+
+  -- both fetch the same addresses
+  same_fetches : (n : ℕ) (earlier : List ℕ) → IsPath (graph_step nodes) 0 (n ∷ earlier)
+      → map (address_of nodes) (n ∷ earlier) ≡ fetches_of (map (numbered configurations) (n ∷ earlier))
+  same_fetches n earlier path = path_addresses (successors image entry) entry configurations nodes is (n ∷ earlier) path
+
+  -- the way to a node names a path to its configuration, with the same fate
+  pub named_fate : (n : ℕ) (earlier : List ℕ) (way : Way) (hits : Bool) → IsPath (graph_step nodes) 0 (n ∷ earlier)
+      → Names (graph_step nodes) way (n ∷ earlier) → path_hits nodes g (n ∷ earlier) ≡ hits → Ends (numbered configurations n)
+      → NamesFate image entry g Ends way hits
+  named_fate n earlier way hits path names fate ends = record {
+    path = map (numbered configurations) (n ∷ earlier);
+    ends_in = ends_in n earlier path ends;
+    names = record {
+      steps = names.steps ∙ sym (length-map (n ∷ earlier) (numbered configurations));
+      choices = choices_to (successors image entry) entry configurations nodes is (n ∷ earlier) way.choices path names.choices;
+    };
+    fate = ap (ends_in_hit g) (sym (same_fetches n earlier path)) ∙ fate;
+  }
+
+  -- some path ends in the configuration of each node
+  pub some_fetches : (n : ℕ) → n < length nodes → Ends (numbered configurations n)
+      → (addresses : List ℕ) × Fetches image entry Ends addresses
+  some_fetches n inside ends =
+      let (earlier, path) = node_reached nodes n is.graph inside in
+      let whole = map (numbered configurations) (n ∷ earlier) in
+      (fetches_of whole, (whole, ends_in n earlier path ends, refl))
+
+  -- each path that ends in one of the configurations is one of the graph, and ends in a node of it
+  pub of_graph : (addresses : List ℕ) → Fetches image entry Ends addresses
+      → (n : ℕ) × (earlier : List ℕ) × IsPath (graph_step nodes) 0 (n ∷ earlier) × Ends (numbered configurations n)
+      × (addresses ≡ map (address_of nodes) (n ∷ earlier))
+  of_graph addresses (path, ends, same) =
+      let found = path_from (successors image entry) entry configurations nodes is path ends.is_path in
+      of_members found.0 found.1 (found.2 ∙ ends.path_is) ends.ends (same ∙ ap fetches_of (sym found.2)) where
+        of_members : (members : List ℕ) → IsPath (graph_step nodes) 0 members → map (numbered configurations) members ≡ ends.last ∷ ends.earlier
+            → Ends ends.last → addresses ≡ fetches_of (map (numbered configurations) members)
+            → (n : ℕ) × (earlier : List ℕ) × IsPath (graph_step nodes) 0 (n ∷ earlier) × Ends (numbered configurations n)
+            × (addresses ≡ map (address_of nodes) (n ∷ earlier))
+        of_members [] is_path whole end from = absurd is_path
+        of_members (n ∷ earlier) is_path whole end from =
+            let here : numbered configurations n ≡ ends.last = cc whole in
+            (n, earlier, is_path, subst Ends (sym here) end, from ∙ sym (same_fetches n earlier is_path))
+
+  -- a hit or a miss of each node is one of each path
+  each_ends : (hits : Bool) → ((n : ℕ) → Ends (numbered configurations n) → n < length nodes → AllEnd nodes g n hits)
+      → (addresses : List ℕ) → Fetches image entry Ends addresses → ends_in_hit g addresses ≡ hits
+  each_ends hits all addresses fetches =
+      let (n, earlier, path, ends, same) = of_graph addresses fetches in
+      let inside = member_inside (successors image entry) entry configurations nodes is n earlier path in
+      ap (ends_in_hit g) same ∙ all n ends inside earlier path
+
+  -- where all nodes of the configurations always hit, so do these
+  pub always_hit : (n : ℕ) → n < length nodes → Ends (numbered configurations n)
+      → ((m : ℕ) → Ends (numbered configurations m) → m < length nodes → AllEnd nodes g m true) → IsRight image entry g Ends AlwaysHit
+  always_hit n inside ends all =
+      record { some = some_fetches n inside ends; each = λ addresses fetches. each_ends true all addresses fetches }
+
+  -- where all always miss, so do these
+  pub always_miss : (n : ℕ) → n < length nodes → Ends (numbered configurations n)
+      → ((m : ℕ) → Ends (numbered configurations m) → m < length nodes → AllEnd nodes g m false) → IsRight image entry g Ends AlwaysMiss
+  always_miss n inside ends all =
+      record { some = some_fetches n inside ends; each = λ addresses fetches. each_ends false all addresses fetches }
+
+-- what is right of a node is what its verdict says
+verdict_is : (nodes : List Node) (g : Geometry) (verdicts : List Verdict) (n : ℕ) (verdict : Verdict) → IsRightAt nodes g verdicts n
+    → slice_get verdicts n ≡ Some verdict → IsNodeVerdict nodes g n verdict
+verdict_is nodes g verdicts n verdict right is =
+    let same : right.0 ≡ verdict = cc (is, right.1) in
+    subst (λ (v : Verdict). IsNodeVerdict nodes g n v) same right.2
+
+module _ (image : Image) (entry : ℕ) (g : Geometry) (configurations : List Configuration) (nodes : List Node) (verdicts : List Verdict)
+    (is : IsGraphOf (successors image entry) entry configurations nodes)
+    (right : (n : ℕ) → n < length nodes → IsRightAt nodes g verdicts n) where
+  -- a node fetches the address of its configuration
+  address_at : (n : ℕ) → n < length nodes → address_of nodes n ≡ (numbered configurations n).at
+  address_at n inside =
+      let node = element nodes n inside in
+      ap address node.1 ∙ (node_at (successors image entry) entry configurations nodes is n node.0 node.1).at
+
+  -- the configuration of a node is at the node's address
+  at_address : (address n : ℕ) → IsNodeAt nodes address n → (numbered configurations n).at ≡ address
+  at_address address n here = sym (address_at n here.inside) ∙ here.at
+
+  -- the node of a configuration at an address is there
+  node_there : (address n : ℕ) → n < length nodes → (numbered configurations n).at ≡ address → IsNodeAt nodes address n
+  node_there address n inside at =
+      record { inside = inside; at = address_at n inside ∙ at }
+
+  -- the way to a hit at an address names a path that hits
+  hit_way : (address : ℕ) (way : Way) → IsHitWay nodes verdicts address way → NamesFate image entry g (IsAt address) way true
+  hit_way address way (n, here, inl (miss, is_unknown)) =
+      let named : NamesEnd nodes g n way true = (verdict_is nodes g verdicts n (Unknown way miss) (right n here.inside) is_unknown).0 in
+      named_fate image entry g configurations nodes is (IsAt address) n named.earlier way true named.is_path named.names
+      named.fate (at_address address n here)
+  hit_way address way (n, here, inr (is_hit, (earlier, path, names))) =
+      named_fate image entry g configurations nodes is (IsAt address) n earlier way true path names
+      (verdict_is nodes g verdicts n AlwaysHit (right n here.inside) is_hit earlier path) (at_address address n here)
+
+  -- the way to a miss at an address names a path that misses
+  miss_way : (address : ℕ) (way : Way) → IsMissWay nodes verdicts address way → NamesFate image entry g (IsAt address) way false
+  miss_way address way (n, here, inl (hit, is_unknown)) =
+      let named : NamesEnd nodes g n way false = (verdict_is nodes g verdicts n (Unknown hit way) (right n here.inside) is_unknown).1 in
+      named_fate image entry g configurations nodes is (IsAt address) n named.earlier way false named.is_path named.names
+      named.fate (at_address address n here)
+  miss_way address way (n, here, inr (is_miss, (earlier, path, names))) =
+      named_fate image entry g configurations nodes is (IsAt address) n earlier way false path names
+      (verdict_is nodes g verdicts n AlwaysMiss (right n here.inside) is_miss earlier path) (at_address address n here)
+
+  -- the merged verdict of an address is right of the configurations there
+  pub merged_right : (address : ℕ) (verdict : Verdict) → IsMerged nodes verdicts address verdict
+      → IsRight image entry g (IsAt address) verdict
+  merged_right address AlwaysHit have =
+      let (n, here) = have.some in
+      always_hit image entry g configurations nodes is (IsAt address) n here.inside (at_address address n here)
+      (λ m at inside. verdict_is nodes g verdicts m AlwaysHit (right m inside) (have.each m (node_there address m inside at)))
+  merged_right address AlwaysMiss have =
+      let (n, here) = have.some in
+      always_miss image entry g configurations nodes is (IsAt address) n here.inside (at_address address n here)
+      (λ m at inside. verdict_is nodes g verdicts m AlwaysMiss (right m inside) (have.each m (node_there address m inside at)))
+  merged_right address (Unknown hit miss) ways = (hit_way address hit ways.0, miss_way address miss ways.1)
+
+  -- no path ends at an address without a node
+  pub bare_unreached : (address : ℕ) → ((n : ℕ) → IsNodeAt nodes address n → ⊥) → IsUnreached image entry address
+  bare_unreached address bare addresses fetches =
+      let (n, earlier, path, at, same) = of_graph image entry g configurations nodes is (IsAt address) addresses fetches in
+      bare n (node_there address n (member_inside (successors image entry) entry configurations nodes is n earlier path) at)
+
+  -- the configuration of a node is that of no other
+  only_node : (n m : ℕ) → n < length configurations → m < length configurations → numbered configurations m ≡ numbered configurations n
+      → m ≡ n
+  only_node n m below below' same = is.apart m n below' below same
+
+  -- the verdict of a node is right of its configuration alone
+  pub context_right : (n : ℕ) (verdict : Verdict) → n < length nodes → length configurations ≡ length nodes
+      → slice_get verdicts n ≡ Some verdict
+      → IsRight image entry g (λ d. d ≡ numbered configurations n) verdict
+  context_right n AlwaysHit inside long has =
+      always_hit image entry g configurations nodes is (λ d. d ≡ numbered configurations n) n inside refl
+      (λ m same below. subst (λ (k : ℕ). AllEnd nodes g k true)
+      (sym (only_node n m (omega (arith, inside, long)) (omega (arith, below, long)) same))
+      (verdict_is nodes g verdicts n AlwaysHit (right n inside) has))
+  context_right n AlwaysMiss inside long has =
+      always_miss image entry g configurations nodes is (λ d. d ≡ numbered configurations n) n inside refl
+      (λ m same below. subst (λ (k : ℕ). AllEnd nodes g k false)
+      (sym (only_node n m (omega (arith, inside, long)) (omega (arith, below, long)) same))
+      (verdict_is nodes g verdicts n AlwaysMiss (right n inside) has))
+  context_right n (Unknown hit miss) inside long has =
+      let ends : IsNodeVerdict nodes g n (Unknown hit miss) = verdict_is nodes g verdicts n (Unknown hit miss) (right n inside) has in
+      let a : NamesEnd nodes g n hit true = ends.0 in
+      let b : NamesEnd nodes g n miss false = ends.1 in (
+        named_fate image entry g configurations nodes is (λ d. d ≡ numbered configurations n) n a.earlier hit true a.is_path
+            a.names a.fate refl,
+        named_fate image entry g configurations nodes is (λ d. d ≡ numbered configurations n) n b.earlier miss false b.is_path
+            b.names b.fate refl,
+      )

@@ -1,0 +1,23 @@
+-- Lines that follow one another, each from the place behind the one before.
+use Rattle.std.specs.Prelude.{◌≡◌, ℕ, Bool, true, false, List, [], ◌∷◌, ◌++◌, Option, Some, None}
+use Rattle.elf_spec.specs.Image.{Image}
+use Rattle.flow_spec.specs.Configuration.{Configuration}
+use Rattle.path_model.specs.declared.graph.Node.{Node}
+use Rattle.report_spec.specs.declared.line.Line.{Line}
+use Rattle.report_spec.specs.declared.line.Verdict.{Verdict}
+use Rattle.node_spec.specs.Plan.{IsByAddress, IsByNumber}
+
+-- which line, and which place behind it, stands at a place
+abbrev pub Stands : Bool → Image → List Configuration → List Node → List Verdict → ℕ → Option (Line × Option ℕ) → Type 0
+Stands true image configurations nodes verdicts = IsByNumber configurations verdicts
+Stands false image configurations nodes verdicts = IsByAddress image nodes verdicts
+
+-- the lines are all from a place on, where there is one
+abbrev pub AreAllFrom : (ℕ → Option (Line × Option ℕ) → Type 0) → Option ℕ → List Line → Type 0
+AreAllFrom At None lines = lines ≡ []
+AreAllFrom At (Some place) [] = At place None
+AreAllFrom At (Some place) (line ∷ lines) = (next : Option ℕ) × At place (Some (line, next)) × AreAllFrom At next lines
+
+-- the lines are those before a place: with all from there on they are all lines
+abbrev pub AreAllBefore : (ℕ → Option (Line × Option ℕ) → Type 0) → Option ℕ → List Line → Type 0
+AreAllBefore At next front = (rest : List Line) → AreAllFrom At next rest → AreAllFrom At (Some 0) (front ++ rest)
