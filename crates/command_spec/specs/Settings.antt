@@ -5,11 +5,11 @@ use Rattle.cache_spec.specs.Geometry.{Geometry, is_in_range}
 use Rattle.command_spec.specs.declared.settings.Settings.{Settings}
 use Rattle.command_spec.specs.declared.settings.Settings.TheVariants.{Classify, Graph}
 use Rattle.command_spec.specs.Number.{number_of, address_of}
-use Rattle.command_spec.specs.Plain.{value_of, is_plain}
+use Rattle.command_spec.specs.Plain.{value_of, has_option, is_plain}
 
 -- the options of `classify`
 abbrev pub classify_names : List (List ℕ)
-classify_names = codes "--line" ∷ codes "--sets" ∷ codes "--ways" ∷ codes "--entry" ∷ []
+classify_names = codes "--line" ∷ codes "--sets" ∷ codes "--ways" ∷ codes "--entry" ∷ codes "--contexts" ∷ []
 
 -- the number that a value spells, or the default where no value is given
 abbrev pub number_or : ℕ → Option (List ℕ) → Option ℕ
@@ -44,10 +44,14 @@ address_if (Some text) = option_map Some (address_of text)
 abbrev pub entry_in : List (List ℕ) → Option (Option ℕ)
 entry_in words = address_if (value_of (codes "--entry") words)
 
+-- the settings of `classify` with this geometry and this entry, with contexts where the words have the flag
+abbrev pub classify_as : List (List ℕ) → Geometry → Option ℕ → Settings
+classify_as words geometry entry = Classify geometry entry (has_option (codes "--contexts") words)
+
 abbrev pub classify_settings : List (List ℕ) → Option Settings
 classify_settings words =
     if is_plain classify_names words
-    then option_and_then (λ geometry. option_map (Classify geometry) (entry_in words)) (geometry_in words)
+    then option_and_then (λ geometry. option_map (classify_as words geometry) (entry_in words)) (geometry_in words)
     else None
 
 -- the options of `graph`

@@ -1,6 +1,7 @@
 //! What the words of a command line ask for: the settings, and the definition of which words give them.
 //!
-//! Only the plain form is read today: a command, and then names of its options, each with its value behind it.
+//! Only the plain form is read today: a command, and then its options in any order: names, each with its value behind
+//! it, and flags, which have none.
 #![tactic(auto)]
 
 mod settings;

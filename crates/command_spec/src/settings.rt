@@ -4,10 +4,11 @@ use cache_geom::Geometry;
 /// it, that of the file's header.
 #[derive(Clone, Copy, Debug, PartialEq, Eq)]
 pub enum Settings {
-    /// The report of a program in a cache of this shape.
+    /// The report of a program in a cache of this shape: by address, or with a line for each configuration.
     Classify {
         geometry: Geometry,
         entry: Option<u32>,
+        contexts: bool,
     },
     /// The text of a program's graph.
     Graph {

@@ -2,6 +2,5 @@ pub mod Transfer
 pub mod Configuration
 pub mod Next
 pub mod Successors
-pub mod Straight
 pub mod Order
 pub mod Acceptance

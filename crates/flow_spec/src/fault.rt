@@ -22,9 +22,6 @@ pub enum FlowFault {
     /// More configurations than the limit.
     #[error("the program has more than {limit} fetches")]
     TooManyFetches { limit: u32 },
-    /// A branch, a jump, a call, a return or a computed jump, none of which is followed today.
-    #[error("the word at {at:#010x} isn't followed yet")]
-    NotBuilt { at: u32 },
     #[error("out of memory")]
     OutOfMemory,
 }

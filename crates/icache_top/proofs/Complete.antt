@@ -34,7 +34,7 @@ says words FileTooBig left now old new a = too_many left now a.0
 says words ReadFault left now old new a = all_told left
 says words OutOfMemory left now old new a = all_told left
 says words Usage left now old new a = all_told left
-says words (TooManyBlocks set count) left now old new a = absurd a
+says words (TooManyBlocks set count) left now old new a = whole words (TooManyBlocks set count) left now old new a
 
 at_file : (words : List (List ℕ)) (status : Status) (left : Option (List ℕ)) (file : List ℕ) (old new : Option (List ℕ)) → left ≡ Some file
     → IfSome left (λ file. SaysOf words file status old new) → SaysOf words file status old new

@@ -1,22 +1,22 @@
 -- The lines of an expanded graph are those of its configurations.
-use Rattle.std.proofs.Common.{◌≡◌, ℕ, zero, suc, ◌+◌, ◌<◌, List, [], ◌∷◌, ◌++◌, length, map, refl, sym, ap, ◌∙◌, subst, arith, Some, None, IsTrue}
+use Rattle.std.proofs.Common.{◌≡◌, ℕ, zero, suc, ◌+◌, ◌<◌, List, [], ◌∷◌, ◌++◌, length, map, refl, ap, ◌∙◌, subst, arith, Some, None}
 use Rattle.std.specs.Prelude.{Bool, true, false, ◌&&◌, nat_lt, Option, Contains, slice_get, slice_index_or}
 use Rattle.std.specs.List.{AllZip}
 use Rattle.std.specs.Option.{option_to_list}
 use Rattle.std.proofs.lemmas.Slice.Zip.{AllZip-long}
 use Rattle.std.proofs.lemmas.Bool.Decides.{nat_tests}
 use Rattle.path_model.specs.declared.graph.Node.{Node}
-use Rattle.path_model.specs.Graph.{IsGraph, is_fit, are_fit}
+use Rattle.path_model.specs.Graph.{is_fit, are_fit}
 use Rattle.path_model.proofs.Edges.{fit_at}
-use Rattle.flow_spec.specs.Configuration.{Configuration, start_of}
+use Rattle.flow_spec.specs.Configuration.{Configuration}
 use Rattle.flow_spec.specs.Acceptance.{Step, IsAccepted}
-use Rattle.report_spec.specs.declared.graph_line.GraphLine.{GraphLine}
-use Rattle.report_spec.specs.Graph.{AreGraphLines, IsGraphLine, IsGraphText}
+use Rattle.report_spec.specs.Graph.{AreGraphLines, IsGraphLine}
 use Rattle.elf_spec.specs.Image.{Image}
 use Rattle.transition_spec.specs.Layer.{all_of}
 use Rattle.flow_spec.specs.Successors.{successors}
 use Rattle.call_expand.specs.Expansion.{Expansion, IsNodeOf, IsGraphOf, numbered}
-use Rattle.icache_top.specs.Answer.{IsProgramText}
+use Rattle.icache_top.specs.Answer.{IsAcceptedWith, IsTextFrom}
+use Rattle.command_spec.specs.declared.settings.Settings.TheVariants.{Graph}
 use Rattle.icache_top.specs.GraphLines.{graph_line, graph_lines_from, graph_lines_of, graph_text_of}
 
 -- what a list has at a place is there
@@ -102,16 +102,15 @@ graph_lines step entry configurations nodes of =
     (subst P long (λ node (k, below, is). fit_at nodes (length nodes) k node of.graph.fit (slice_get_is nodes k node below is)))
 
 -- the text of an accepted program's graph
-pub graph_text : (image : Image) (entry : ℕ) (expanded : Expansion)
+pub graph_text : (image : Image) (entry : ℕ) (words_entry : Option ℕ) (expanded : Expansion)
     → ((layers : List (List Configuration)) × IsAccepted (successors image entry) image entry layers × (expanded.configurations ≡ all_of layers))
     → IsGraphOf (successors image entry) entry expanded.configurations expanded.nodes
-    → IsProgramText (successors image entry) image entry (IsGraphText image entry) (graph_text_of expanded)
-graph_text image entry expanded (layers, accepted, all) of =
+    → IsAcceptedWith image entry (λ layers. IsTextFrom (Graph words_entry) image entry layers (graph_text_of expanded))
+graph_text image entry words_entry expanded (layers, accepted, all) of =
     let step = successors image entry in
     let lines = graph_lines_of expanded in
-    let P : List Configuration → Type 0 = λ configurations. AreGraphLines step configurations 0 configurations lines in
-    record {
-      layers = layers;
-      accepted = accepted;
-      wanted = (layers, accepted, (lines, subst P all (graph_lines step entry expanded.configurations expanded.nodes of), refl));
-    }
+    let P : List Configuration → Type 0 = λ configurations. AreGraphLines step configurations 0 configurations lines in (
+      layers,
+      accepted,
+      (layers, accepted, (lines, subst P all (graph_lines step entry expanded.configurations expanded.nodes of), refl)),
+    )

@@ -1,81 +1,106 @@
 -- A report's text, line after line.
-use Rattle.std.proofs.Common.{◌≡◌, ℕ, ◌+◌, ◌*◌, ◌^◌, ◌<◌, List, [], ◌∷◌, ◌++◌, refl, sym, ap, subst, ◌∙◌, append-nil, append_assoc}
-use Rattle.std.specs.Prelude.{false, Option, Some, None}
+use Rattle.std.proofs.Common.{◌≡◌, ℕ, List, [], ◌∷◌, ◌++◌, refl, sym, ap, subst, ◌∙◌, append-nil, append_assoc, inl, inr, arith}
+use Rattle.std.specs.Prelude.{Bool, true, Option, Some, None, length, Result, Ok, Err, OnErr}
+use Rattle.std.specs.List.{list_all}
+use Rattle.std.proofs.lemmas.Option.{slice_get_within}
+use Rattle.std.proofs.lemmas.Slice.Zip.{AllZip-long}
 use Rattle.elf_spec.specs.Image.{Image}
-use Rattle.elf_spec.specs.Word.{IsNextText}
 use Rattle.byte_port.specs.Stream.{SendsPrefix}
 use Rattle.line_sender.specs.Pending.{Pending}
-use Rattle.line_sender.proofs.Pending.{Pending-line, SendsPrefix-line, SendsPrefix-more}
+use Rattle.line_sender.proofs.Pending.{Pending-line, Pending-trans, SendsPrefix-line, SendsPrefix-more, SendsPrefix-none, SendsPrefix-pending}
 use Rattle.line_sender.proofs.Text.{text_of-append}
+use Rattle.call_expand.specs.Expansion.{Expansion}
 use Rattle.report_spec.specs.declared.line.Line.{Line}
+use Rattle.report_spec.specs.declared.line.Verdict.{Verdict}
 use Rattle.report_spec.specs.Text.{line_text, text_of}
-use Rattle.text_lines.specs.Lines.{Said, IsWithin, word_count, lines_from, lines_of}
-use Rattle.text_lines.proofs.Reported.{all_words, reported}
-use Rattle.text_lines.proofs.Skipped.{from_next, no_next}
-use Rattle.cache_spec.specs.Geometry.{Geometry}
-use Rattle.flow_spec.specs.Straight.{built_successors}
-use Rattle.report_spec.specs.Report.{IsReport}
-use Rattle.straight_walk.specs.Straight.{Walked, IsWalkOf, said_by}
-use Rattle.icache_top.specs.Answer.{IsProgramText}
-use Rattle.icache_top.specs.Lines.{IsLineAt, last_of}
-
--- so many lines of a text stand before those from an address on
-abbrev pub IsFront : Image → Said → List Line → ℕ → ℕ → Type 0
-IsFront image said front from count = (from + 4 * count ≡ 2 ^ 32) × (front ++ lines_from image said from count ≡ lines_of image said)
-
--- one line more
-pub front_more : (image : Image) (said : Said) (front : List Line) (from count at : ℕ) (line : Line) → IsFront image said front from count
-    → IsNextText image from (Some at) → at < 2 ^ 32 → IsLineAt image said at line
-    → (rest : ℕ) × IsFront image said (front ++ line ∷ []) (last_of line + 4) rest
-front_more image said front from count at line (whole, all) next below is =
-    let (left, end, skip) = from_next image said from count at whole below next in
-    let (rest, behind, line_is) = is left end in
-    let lines = lines_from image said (last_of line + 4) rest in
-    (rest, (behind, append_assoc front (line ∷ []) lines ∙ ap (λ lines. front ++ lines) (sym (skip ∙ line_is)) ∙ all))
-
--- no line more
-pub front_whole : (image : Image) (said : Said) (front : List Line) (from count : ℕ) → IsFront image said front from count
-    → IsNextText image from None → front ≡ lines_of image said
-front_whole image said front from count (whole, all) none =
-    sym (append-nil front) ∙ ap (λ lines. front ++ lines) (sym (no_next image said from count none)) ∙ all
+use Rattle.report_lines.specs.Lines.{AreAllFrom, AreAllBefore}
+use Rattle.report_spec.specs.Valid.{is_valid_verdict}
+use Rattle.report_lines.proofs.Made.{rest}
+use Rattle.report_lines.proofs.Valid.{right_valid}
+use Rattle.icache_top.specs.Lines.{AreFound, StandsAt, SendsAll, SendsNext, SendsPart}
 
 line_behind : (front : List Line) (line : Line) → text_of front ++ line_text line ≡ text_of (front ++ line ∷ [])
 line_behind front line =
     ap (λ last. text_of front ++ last) (sym (append-nil (line_text line))) ∙ sym (text_of-append front (line ∷ []))
 
--- the line went to the buffer
-pub Pending-front : (a b c : Option (List ℕ)) (buffer left : List ℕ) (front : List Line) (line : Line) → Pending a b buffer (text_of front)
-    → Pending b c left (buffer ++ line_text line) → Pending a c left (text_of (front ++ line ∷ []))
-Pending-front a b c buffer left front line before next =
-    let P : List ℕ → Type 0 = λ text. Pending a c left text in
-    subst P (line_behind front line) (Pending-line a b c buffer left (text_of front) (line_text line) before next)
+module _ (At : ℕ → Option (Line × Option ℕ) → Type 0) where
+  -- one line more
+  before_more : (from : ℕ) (front : List Line) (line : Line) (next : Option ℕ) → AreAllBefore At (Some from) front
+      → At from (Some (line, next)) → AreAllBefore At next (front ++ line ∷ [])
+  before_more from front line next before at = λ rest all.
+      subst (AreAllFrom At (Some 0)) (sym (append_assoc front (line ∷ []) rest)) (before (line ∷ rest) (next, at, all))
 
--- a front of some lines' text is one of the whole text
-SendsPrefix-front : (a b : Option (List ℕ)) (image : Image) (said : Said) (front : List Line) (from count : ℕ)
-    → IsFront image said front from count → SendsPrefix a b (text_of front) → SendsPrefix a b (text_of (lines_of image said))
-SendsPrefix-front a b image said front from count (whole, all) part =
-    let P : List ℕ → Type 0 = λ text. SendsPrefix a b text in
-    let rest = lines_from image said from count in
-    subst P (sym (text_of-append front rest) ∙ ap text_of all) (SendsPrefix-more a b (text_of front) (text_of rest) part)
+  -- no line is left
+  before_all : (from : ℕ) (front : List Line) (next : Option ℕ) → AreAllBefore At (Some from) front → At from None → next ≡ None
+      → AreAllBefore At next front
+  before_all from front next before none is = λ rest all.
+      let empty : rest ≡ [] = subst (λ (p : Option ℕ). AreAllFrom At p rest) is all in
+      subst (λ (lines : List Line). AreAllFrom At (Some 0) (front ++ lines)) (sym empty) (before [] none)
 
--- a front went over of the lines so far and one more
-pub SendsPrefix-line_more : (a b c : Option (List ℕ)) (buffer : List ℕ) (image : Image) (said : Said) (front : List Line) (line : Line)
-    (from count : ℕ) → IsFront image said (front ++ line ∷ []) from count → Pending a b buffer (text_of front)
-    → SendsPrefix b c (buffer ++ line_text line) → SendsPrefix a c (text_of (lines_of image said))
-SendsPrefix-line_more a b c buffer image said front line from count is before part =
-    let P : List ℕ → Type 0 = λ text. SendsPrefix a c text in
-    SendsPrefix-front a c image said (front ++ line ∷ []) from count is
-    (subst P (line_behind front line) (SendsPrefix-line a b c buffer (text_of front) (line_text line) before part))
+  -- all lines stand before the end
+  pub whole : (front : List Line) → AreAllBefore At None front → AreAllFrom At (Some 0) front
+  whole front before = subst (AreAllFrom At (Some 0)) (append-nil front) (before [] refl)
 
--- before the first line
-pub front_none : (image : Image) (said : Said) → IsFront image said [] 0 word_count
-front_none image said = (all_words, refl)
+  -- the line at a place went to the buffer, or none was left
+  pub sent_next : (a b c : Option (List ℕ)) (buffer left : List ℕ) (from : ℕ) (next : Option ℕ)
+      → (front : List Line) × AreAllBefore At (Some from) front × Pending a b buffer (text_of front)
+      → SendsNext At from (Pending b c left) buffer next
+      → (front : List Line) × AreAllBefore At next front × Pending a c left (text_of front)
+  sent_next a b c buffer left from next (front, before, pending) (inl (none, is, same)) =
+      (front, before_all from front next before none is, Pending-trans a b c buffer left (text_of front) pending same)
+  sent_next a b c buffer left from next (front, before, pending) (inr (line, at, sent)) = (
+    front ++ line ∷ [],
+    before_more from front line next before at,
+    subst (λ (text : List ℕ). Pending a c left text) (line_behind front line)
+        (Pending-line a b c buffer left (text_of front) (line_text line) pending sent),
+  )
 
--- what a walk says of a text is a report of its program
-pub report_text : (image : Image) (entry : ℕ) (g : Geometry) (walked : Walked) → IsWithin image → IsWalkOf image entry g walked
-    → IsProgramText (built_successors image entry) image entry (IsReport image entry g false) (text_of (lines_of image (said_by walked)))
-report_text image entry g walked within walk = record {
-  layers = walk.layers;
-  accepted = walk.accepted;
-  wanted = (lines_of image (said_by walked), refl, reported image entry g (said_by walked) within (walk.said within));
-}
+module _ (contexts : Bool) (image : Image) (expanded : Expansion) (verdicts : List Verdict) (found : AreFound image expanded verdicts) where
+  abbrev At : ℕ → Option (Line × Option ℕ) → Type 0
+  At = StandsAt contexts image expanded verdicts
+
+  -- there are lines from each place on
+  there : (place : Option ℕ) → (lines : List Line) × AreAllFrom At place lines
+  there place =
+      let (entry, g, findings) = found in
+      rest image entry g expanded.configurations expanded.nodes verdicts findings contexts place
+
+  -- a front of what stands before a place was sent
+  part_before : (a c : Option (List ℕ)) (front : List Line) (place : Option ℕ) → AreAllBefore At place front → SendsPrefix a c (text_of front)
+      → SendsAll contexts image expanded verdicts (SendsPrefix a c)
+  part_before a c front place before part =
+      let (lines, all) = there place in (
+        front ++ lines,
+        before lines all,
+        subst (SendsPrefix a c) (sym (text_of-append front lines)) (SendsPrefix-more a c (text_of front) (text_of lines) part),
+      )
+
+  -- a front of the lines so far was sent
+  pub part_sent : (a b c : Option (List ℕ)) (buffer : List ℕ) (from : ℕ)
+      → (front : List Line) × AreAllBefore At (Some from) front × Pending a b buffer (text_of front)
+      → SendsPart At from (SendsPrefix b c) buffer → SendsAll contexts image expanded verdicts (SendsPrefix a c)
+  part_sent a b c buffer from (front, before, pending) (inl part) =
+      part_before a c front (Some from) before (SendsPrefix-pending a b c buffer (text_of front) pending part)
+  part_sent a b c buffer from (front, before, pending) (inr (line, next, at, part)) =
+      part_before a c (front ++ line ∷ []) next (before_more At from front line next before at)
+      (subst (SendsPrefix a c) (line_behind front line) (SendsPrefix-line a b c buffer (text_of front) (line_text line) pending part))
+
+  -- nothing was sent
+  pub none_sent : (a : Option (List ℕ)) → SendsAll contexts image expanded verdicts (SendsPrefix a a)
+  none_sent a = let (lines, all) = there (Some 0) in (lines, all, SendsPrefix-none a (text_of lines))
+
+-- the verdicts that were found are valid
+pub found_valid : (image : Image) (expanded : Expansion) (verdicts : List Verdict) → AreFound image expanded verdicts
+    → list_all is_valid_verdict verdicts ≡ true
+found_valid image expanded verdicts (entry, g, found) =
+    right_valid expanded.nodes g verdicts (λ k v is. slice_get_within verdicts k v is) (λ n below. found.right n (omega (arith, below, found.one_each)))
+
+-- there is a node for each configuration
+pub found_long : (image : Image) (expanded : Expansion) (verdicts : List Verdict) → AreFound image expanded verdicts
+    → length expanded.configurations ≡ length expanded.nodes
+found_long image expanded verdicts (entry, g, found) = sym (AllZip-long _ _ _ found.graph.each)
+
+-- what holds anyway holds of an error
+pub err_of : {V E : Type 0} {P : Type 0} (r : Result V E) → P → OnErr r P
+err_of (Ok value) holds = tt
+err_of (Err error) holds = holds

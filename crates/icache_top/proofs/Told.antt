@@ -1,7 +1,7 @@
 -- What a status says of the file that was read.
-use Rattle.std.proofs.Common.{◌≡◌, ◌⊎◌, ℕ, List, refl, sym, ap, subst, ◌∙◌, inl, inr}
-use Rattle.std.specs.Prelude.{false, Option, Ok, Err, Result, IsErrAnd, OnOk, OnErr}
-use Rattle.std.specs.Io.KnownBytes.{Appends, Keeps}
+use Rattle.std.proofs.Common.{◌≡◌, ◌⊎◌, ℕ, List, sym, subst, inl, inr}
+use Rattle.std.specs.Prelude.{Option, Ok, Err, Result, IsErrAnd, IfErr, OnOk, OnErr}
+use Rattle.std.specs.Io.KnownBytes.{Appends}
 use Rattle.std.proofs.KnownBytes.{Keeps-refl}
 use Rattle.byte_port.specs.Stream.{SendsPrefix}
 use Rattle.elf_spec.specs.Image.{Image, image_of}
@@ -9,27 +9,30 @@ use Rattle.elf_spec.specs.declared.fault.ElfFault.{ElfFault}
 use Rattle.elf_spec.specs.declared.fault.ElfFault.TheVariants as elf
 use Rattle.flow_spec.specs.declared.fault.FlowFault.{FlowFault}
 use Rattle.flow_spec.specs.declared.fault.FlowFault.TheVariants as flow
-use Rattle.flow_spec.specs.Acceptance.{Step, IsRefused}
+use Rattle.flow_spec.specs.Acceptance.{IsRefused}
+use Rattle.flow_spec.specs.Successors.{successors}
+use Rattle.node_verdicts.specs.declared.verdicts.VerdictsFault.{VerdictsFault}
+use Rattle.node_verdicts.specs.declared.verdicts.VerdictsFault.TheVariants as faults
 use Rattle.command_spec.specs.declared.settings.Settings.{Settings}
 use Rattle.line_sender.specs.declared.SendStop.{SendStop}
 use Rattle.line_sender.specs.declared.SendStop.TheVariants as stops
 use Rattle.top_words.specs.declared.status.Status.{Status}
 use Rattle.top_words.specs.declared.status.Status.TheVariants.{Done, Usage, OutOfMemory, ReadFault, WriteFault, FileTooBig, Elf, Flow, TooManyBlocks}
 use Rattle.top_words.specs.Status.{of_elf, of_flow}
-use Rattle.icache_top.specs.Answer.{ToldOf, Tells, IsAnswerOf, IsProgramText, IsTextFrom, HasFlowFault, entry_of, step_of, sent_as, status_of}
+use Rattle.icache_top.specs.Answer.{ToldOf, Tells, IsAcceptedWith, IsTextFrom, IsTooMuchFor, entry_of, sent_as, settled_as, status_of}
 
 -- a wanted text was sent
-pub sent_told : (Refused : FlowFault → Type 0) (IsWanted : List ℕ → Type 0) (old new : Option (List ℕ)) (text : List ℕ)
+pub sent_told : (Refused : FlowFault → Type 0) (HasMany : ℕ → ℕ → Type 0) (IsWanted : List ℕ → Type 0) (old new : Option (List ℕ)) (text : List ℕ)
     → (sending : Result (Unit {0}) SendStop) → (r : Result (Unit {0}) Status) → IsWanted text → r ≡ sent_as sending
-    → OnOk sending (Appends old new text) → OnErr sending (SendsPrefix old new text) → ToldOf Refused IsWanted (status_of r) old new
-sent_told Refused IsWanted old new text (Ok done) r wanted is whole part =
-    let P : Result (Unit {0}) Status → Type 0 = λ r. ToldOf Refused IsWanted (status_of r) old new in
+    → OnOk sending (Appends old new text) → OnErr sending (SendsPrefix old new text) → ToldOf Refused HasMany IsWanted (status_of r) old new
+sent_told Refused HasMany IsWanted old new text (Ok done) r wanted is whole part =
+    let P : Result (Unit {0}) Status → Type 0 = λ r. ToldOf Refused HasMany IsWanted (status_of r) old new in
     subst P (sym is) (text, wanted, whole)
-sent_told Refused IsWanted old new text (Err stops.Failed) r wanted is whole part =
-    let P : Result (Unit {0}) Status → Type 0 = λ r. ToldOf Refused IsWanted (status_of r) old new in
+sent_told Refused HasMany IsWanted old new text (Err stops.Failed) r wanted is whole part =
+    let P : Result (Unit {0}) Status → Type 0 = λ r. ToldOf Refused HasMany IsWanted (status_of r) old new in
     subst P (sym is) (text, wanted, part)
-sent_told Refused IsWanted old new text (Err stops.OutOfMemory) r wanted is whole part =
-    let P : Result (Unit {0}) Status → Type 0 = λ r. ToldOf Refused IsWanted (status_of r) old new in
+sent_told Refused HasMany IsWanted old new text (Err stops.OutOfMemory) r wanted is whole part =
+    let P : Result (Unit {0}) Status → Type 0 = λ r. ToldOf Refused HasMany IsWanted (status_of r) old new in
     subst P (sym is) (inr (text, wanted, part))
 
 status_is : (r : Result (Unit {0}) Status) (status : Status) → IsErrAnd r (λ s. s ≡ status) → status_of r ≡ status
@@ -43,8 +46,8 @@ refused_of : (Refused : FlowFault → Type 0) (fault : FlowFault) → (fault ≡
 refused_of Refused fault other (inl memory) = absurd (other memory)
 refused_of Refused fault other (inr refused) = refused
 
-module _ (Refused : FlowFault → Type 0) (IsWanted : List ℕ → Type 0) (s : Option (List ℕ)) where
-  fault_told : (fault : FlowFault) → (fault ≡ flow.OutOfMemory) ⊎ Refused fault → ToldOf Refused IsWanted (of_flow fault) s s
+module _ (Refused : FlowFault → Type 0) (HasMany : ℕ → ℕ → Type 0) (IsWanted : List ℕ → Type 0) (s : Option (List ℕ)) where
+  fault_told : (fault : FlowFault) → (fault ≡ flow.OutOfMemory) ⊎ Refused fault → ToldOf Refused HasMany IsWanted (of_flow fault) s s
   fault_told flow.OutOfMemory refuses = inl (Keeps-refl s)
   fault_told (flow.BadEntry entry) refuses = (refused_of Refused _ (λ e. cc) refuses, Keeps-refl s)
   fault_told (flow.Illegal at word) refuses = (refused_of Refused _ (λ e. cc) refuses, Keeps-refl s)
@@ -52,12 +55,11 @@ module _ (Refused : FlowFault → Type 0) (IsWanted : List ℕ → Type 0) (s : 
   fault_told (flow.BadTarget at target) refuses = (refused_of Refused _ (λ e. cc) refuses, Keeps-refl s)
   fault_told (flow.Recursion at) refuses = (refused_of Refused _ (λ e. cc) refuses, Keeps-refl s)
   fault_told (flow.TooManyFetches limit) refuses = (refused_of Refused _ (λ e. cc) refuses, Keeps-refl s)
-  fault_told (flow.NotBuilt at) refuses = (refused_of Refused _ (λ e. cc) refuses, Keeps-refl s)
 
   pub flow_told : (fault : FlowFault) (r : Result (Unit {0}) Status) → (fault ≡ flow.OutOfMemory) ⊎ Refused fault
-      → IsErrAnd r (λ s. s ≡ of_flow fault) → ToldOf Refused IsWanted (status_of r) s s
+      → IsErrAnd r (λ s. s ≡ of_flow fault) → ToldOf Refused HasMany IsWanted (status_of r) s s
   flow_told fault r refuses gives =
-      let P : Status → Type 0 = λ status. ToldOf Refused IsWanted status s s in
+      let P : Status → Type 0 = λ status. ToldOf Refused HasMany IsWanted status s s in
       subst P (sym (status_is r (of_flow fault) gives)) (fault_told fault refuses)
 
 -- a fault of the file, as a status
@@ -90,30 +92,52 @@ elf_told settings file s fault r fails gives =
     let P : Status → Type 0 = λ status. Tells settings file status s s in
     subst P (sym (status_is r (of_elf fault) gives)) (file_told settings file s fault fails)
 
+-- too many blocks of a set are fetched, or memory was wanted
+abbrev pub IsManyFault : (ℕ → ℕ → Type 0) → VerdictsFault → Type 0
+IsManyFault HasMany (faults.TooManyBlocks set count) = HasMany set count
+IsManyFault HasMany faults.OutOfMemory = Unit {0}
+
+-- why the nodes of a program have no verdicts, as a status
+pub settled_told : {V : Type 0} (Refused : FlowFault → Type 0) (HasMany : ℕ → ℕ → Type 0) (IsWanted : List ℕ → Type 0) (s : Option (List ℕ))
+    → (found : Result V VerdictsFault) (status : Status) → settled_as found ≡ Err status → IfErr found (IsManyFault HasMany)
+    → ToldOf Refused HasMany IsWanted status s s
+settled_told Refused HasMany IsWanted s (Ok verdicts) status is many = absurd (cc is)
+settled_told Refused HasMany IsWanted s (Err (faults.TooManyBlocks set count)) status is many =
+    let same : TooManyBlocks set count ≡ status = cc is in
+    subst (λ (status : Status). ToldOf Refused HasMany IsWanted status s s) same (many, Keeps-refl s)
+settled_told Refused HasMany IsWanted s (Err faults.OutOfMemory) status is many =
+    let same : OutOfMemory ≡ status = cc is in
+    subst (λ (status : Status). ToldOf Refused HasMany IsWanted status s s) same (inl (Keeps-refl s))
+
+-- a status that is handed on
+pub handed_on : (Refused : FlowFault → Type 0) (HasMany : ℕ → ℕ → Type 0) (IsWanted : List ℕ → Type 0) (s : Option (List ℕ)) (status : Status)
+    → (r : Result (Unit {0}) Status) → IsErrAnd r (λ own. own ≡ status) → ToldOf Refused HasMany IsWanted status s s
+    → ToldOf Refused HasMany IsWanted (status_of r) s s
+handed_on Refused HasMany IsWanted s status r gives told =
+    subst (λ (own : Status). ToldOf Refused HasMany IsWanted own s s) (sym (status_is r status gives)) told
+
+-- what is said of a program that begins at an entry
+abbrev pub ToldAt : Settings → Image → ℕ → Status → Option (List ℕ) → Option (List ℕ) → Type 0
+ToldAt settings image entry = ToldOf (IsRefused (successors image entry) image entry)
+    (λ set count. IsAcceptedWith image entry (λ layers. IsTooMuchFor settings layers set count))
+    (λ text. IsAcceptedWith image entry (λ layers. IsTextFrom settings image entry layers text))
+
 at_entry : (settings : Settings) (file : List ℕ) (image : Image) (status : Status) (old new : Option (List ℕ)) → image_of file ≡ Ok image
-    → ToldOf (IsRefused (step_of settings image (entry_of settings image)) image (entry_of settings image))
-    (IsProgramText (step_of settings image (entry_of settings image)) image (entry_of settings image) (IsTextFrom settings image (entry_of settings image)))
-    status old new
-    → Tells settings file status old new
+    → ToldAt settings image (entry_of settings image) status old new → Tells settings file status old new
 at_entry settings file image Done old new is (text, wanted, sent) = (text, record { image = image; is_image = is; text_is = wanted }, sent)
 at_entry settings file image WriteFault old new is (text, wanted, sent) = (text, record { image = image; is_image = is; text_is = wanted }, sent)
 at_entry settings file image OutOfMemory old new is (inl kept) = inl kept
 at_entry settings file image OutOfMemory old new is (inr (text, wanted, sent)) =
     inr (text, record { image = image; is_image = is; text_is = wanted }, sent)
 at_entry settings file image (Flow fault) old new is (refused, kept) = (record { image = image; is_image = is; refused = refused }, kept)
+at_entry settings file image (TooManyBlocks set count) old new is (many, kept) = (record { image = image; is_image = is; too_much = many }, kept)
 at_entry settings file image Usage old new is told = absurd told
 at_entry settings file image ReadFault old new is told = absurd told
 at_entry settings file image FileTooBig old new is told = absurd told
 at_entry settings file image (Elf fault) old new is told = absurd told
-at_entry settings file image (TooManyBlocks set count) old new is told = absurd told
 
 -- what a status says of the program of a file
 pub program_told : (settings : Settings) (file : List ℕ) (image : Image) (entry : ℕ) (status : Status) (old new : Option (List ℕ))
-    → image_of file ≡ Ok image → entry ≡ entry_of settings image
-    → ToldOf (IsRefused (step_of settings image entry) image entry)
-    (IsProgramText (step_of settings image entry) image entry (IsTextFrom settings image entry)) status old new
-    → Tells settings file status old new
+    → image_of file ≡ Ok image → entry ≡ entry_of settings image → ToldAt settings image entry status old new → Tells settings file status old new
 program_told settings file image entry status old new is same told =
-    let Told : ℕ → Type 0 = λ entry. ToldOf (IsRefused (step_of settings image entry) image entry)
-    (IsProgramText (step_of settings image entry) image entry (IsTextFrom settings image entry)) status old new in
-    at_entry settings file image status old new is (subst Told same told)
+    at_entry settings file image status old new is (subst (λ (entry : ℕ). ToldAt settings image entry status old new) same told)

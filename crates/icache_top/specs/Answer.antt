@@ -1,21 +1,24 @@
 -- What a run answers: for each status, what it says of the words, of the bytes that the source had, and of the bytes
 -- that the sink got. This project's own statuses; their order is that in which the causes are met.
-use Rattle.std.specs.Prelude.{◌≡◌, ◌⊎◌, ℕ, ◌+◌, false, List, Option, Some, Result, Ok, Err, ◌<◌, ◌≤◌, length, unwrap_or}
+use Rattle.std.specs.Prelude.{◌≡◌, ◌⊎◌, ℕ, ◌+◌, List, Option, Some, Result, Ok, Err, ◌<◌, ◌≤◌, length, map, unwrap_or}
 use Rattle.std.specs.Io.KnownBytes.{Appends, Keeps, Consumes, IsAtEnd}
 use Rattle.byte_port.specs.Count.{Rose}
 use Rattle.byte_port.specs.Stream.{SendsPrefix, Takes}
 use Rattle.elf_spec.specs.Image.{Image, image_of}
 use Rattle.elf_spec.specs.declared.fault.ElfFault.{ElfFault}
+use Rattle.transition_spec.specs.Layer.{all_of}
+use Rattle.node_spec.specs.Blocks.{HaveFewInAll, HaveMany}
 use Rattle.flow_spec.specs.declared.fault.FlowFault.{FlowFault}
 use Rattle.flow_spec.specs.Configuration.{Configuration}
-use Rattle.flow_spec.specs.Acceptance.{Step, IsAccepted, IsRefused}
+use Rattle.flow_spec.specs.Acceptance.{IsAccepted, IsRefused}
 use Rattle.flow_spec.specs.Successors.{successors}
-use Rattle.flow_spec.specs.Straight.{built_successors}
 use Rattle.report_spec.specs.Report.{IsReport}
 use Rattle.report_spec.specs.Graph.{IsGraphText}
 use Rattle.command_spec.specs.declared.settings.Settings.{Settings}
 use Rattle.command_spec.specs.declared.settings.Settings.TheVariants.{Classify, Graph}
 use Rattle.command_spec.specs.Settings.{settings_of}
+use Rattle.node_verdicts.specs.declared.verdicts.VerdictsFault.{VerdictsFault}
+use Rattle.node_verdicts.specs.declared.verdicts.VerdictsFault.TheVariants as faults
 use Rattle.line_sender.specs.declared.SendStop.{SendStop}
 use Rattle.line_sender.specs.declared.SendStop.TheVariants as stops
 use Rattle.top_words.specs.declared.status.Status.{Status}
@@ -31,34 +34,45 @@ Reads left now file = Consumes left now file × IsAtEnd now × (length file ≤ 
 
 -- where the words say that the program begins, if they say so
 abbrev pub entry_in : Settings → Option ℕ
-entry_in (Classify geometry entry) = entry
+entry_in (Classify geometry entry contexts) = entry
 entry_in (Graph entry) = entry
 
 -- where the program begins: as the words say, or else as the file says
 abbrev pub entry_of : Settings → Image → ℕ
 entry_of settings image = unwrap_or (entry_in settings) image.entry
 
--- the steps of a program: `classify` follows only some words today
-abbrev pub step_of : Settings → Image → ℕ → Step
-step_of (Classify geometry entry) = built_successors
-step_of (Graph entry) = successors
+-- the addresses that the configurations of these layers fetch
+abbrev pub addresses_of : List (List Configuration) → List ℕ
+addresses_of layers = map (λ (c : Configuration). c.at) (all_of layers)
 
--- the text that the settings ask for: a report, or the text of the graph
-abbrev pub IsTextFrom : Settings → Image → ℕ → List ℕ → Type 0
-IsTextFrom (Classify geometry words_entry) image entry text = IsReport image entry geometry false text
-IsTextFrom (Graph words_entry) image entry text = IsGraphText image entry text
+-- the text that the settings ask for, of a program with these layers: a report, where no set has too many fetched
+-- blocks, or the text of the graph
+abbrev pub IsTextFrom : Settings → Image → ℕ → List (List Configuration) → List ℕ → Type 0
+IsTextFrom (Classify geometry words_entry contexts) image entry layers text =
+    HaveFewInAll (addresses_of layers) geometry × IsReport image entry geometry contexts text
+IsTextFrom (Graph words_entry) image entry layers text = IsGraphText image entry text
 
--- the program is accepted, and the text is one that is wanted of it
-pub record IsProgramText (step : Step) (image : Image) (entry : ℕ) (IsWanted : List ℕ → Type 0) (text : List ℕ) : Type 0 where
-  pub layers : List (List Configuration)
-  pub accepted : IsAccepted step image entry layers
-  pub wanted : IsWanted text
+-- a set has too many fetched blocks for what the settings ask for: the first such one, and this many
+abbrev pub IsTooMuchFor : Settings → List (List Configuration) → ℕ → ℕ → Type 0
+IsTooMuchFor (Classify geometry words_entry contexts) layers set count = HaveMany (addresses_of layers) geometry set count
+IsTooMuchFor (Graph words_entry) layers set count = ⊥
+
+-- the program is accepted with its layers, and they are such
+abbrev pub IsAcceptedWith : Image → ℕ → (List (List Configuration) → Type 0) → Type 0
+IsAcceptedWith image entry IsSuch =
+    (layers : List (List Configuration)) × IsAccepted (successors image entry) image entry layers × IsSuch layers
 
 -- the file is read, and the text is what the settings ask for of its program
 pub record IsAnswerOf (settings : Settings) (file text : List ℕ) : Type 0 where
   pub image : Image
   pub is_image : image_of file ≡ Ok image
-  pub text_is : IsProgramText (step_of settings image (entry_of settings image)) image (entry_of settings image) (IsTextFrom settings image (entry_of settings image)) text
+  pub text_is : IsAcceptedWith image (entry_of settings image) (λ layers. IsTextFrom settings image (entry_of settings image) layers text)
+
+-- the file is read, and the first set of its program with too many fetched blocks is this one, with so many
+pub record HasManyBlocks (settings : Settings) (file : List ℕ) (set count : ℕ) : Type 0 where
+  pub image : Image
+  pub is_image : image_of file ≡ Ok image
+  pub too_much : IsAcceptedWith image (entry_of settings image) (λ layers. IsTooMuchFor settings layers set count)
 
 -- the file isn't read as an executable, and this is why: the answer of the first test that fails
 abbrev pub HasElfFault : List ℕ → ElfFault → Type 0
@@ -68,24 +82,26 @@ HasElfFault file fault = image_of file ≡ Err fault
 pub record HasFlowFault (settings : Settings) (file : List ℕ) (fault : FlowFault) : Type 0 where
   pub image : Image
   pub is_image : image_of file ≡ Ok image
-  pub refused : IsRefused (step_of settings image (entry_of settings image)) image (entry_of settings image) fault
+  pub refused : IsRefused (successors image (entry_of settings image)) image (entry_of settings image) fault
 
--- what a status says of a program that is refused with a fault, or of which a text is wanted, and of what the sink got
-abbrev pub ToldOf : (FlowFault → Type 0) → (List ℕ → Type 0) → Status → Option (List ℕ) → Option (List ℕ) → Type 0
-ToldOf Refused IsWanted Done old new = (text : List ℕ) × IsWanted text × Appends old new text
-ToldOf Refused IsWanted WriteFault old new = (text : List ℕ) × IsWanted text × SendsPrefix old new text
-ToldOf Refused IsWanted OutOfMemory old new = Keeps old new ⊎ ((text : List ℕ) × IsWanted text × SendsPrefix old new text)
-ToldOf Refused IsWanted (Flow fault) old new = Refused fault × Keeps old new
-ToldOf Refused IsWanted Usage old new = ⊥
-ToldOf Refused IsWanted ReadFault old new = ⊥
-ToldOf Refused IsWanted FileTooBig old new = ⊥
-ToldOf Refused IsWanted (Elf fault) old new = ⊥
-ToldOf Refused IsWanted (TooManyBlocks set count) old new = ⊥
+-- what a status says of a program that is refused with a fault, that has too many blocks in a set, or of which a text is
+-- wanted, and of what the sink got
+abbrev pub ToldOf : (FlowFault → Type 0) → (ℕ → ℕ → Type 0) → (List ℕ → Type 0) → Status → Option (List ℕ) → Option (List ℕ) → Type 0
+ToldOf Refused HasMany IsWanted Done old new = (text : List ℕ) × IsWanted text × Appends old new text
+ToldOf Refused HasMany IsWanted WriteFault old new = (text : List ℕ) × IsWanted text × SendsPrefix old new text
+ToldOf Refused HasMany IsWanted OutOfMemory old new = Keeps old new ⊎ ((text : List ℕ) × IsWanted text × SendsPrefix old new text)
+ToldOf Refused HasMany IsWanted (Flow fault) old new = Refused fault × Keeps old new
+ToldOf Refused HasMany IsWanted (TooManyBlocks set count) old new = HasMany set count × Keeps old new
+ToldOf Refused HasMany IsWanted Usage old new = ⊥
+ToldOf Refused HasMany IsWanted ReadFault old new = ⊥
+ToldOf Refused HasMany IsWanted FileTooBig old new = ⊥
+ToldOf Refused HasMany IsWanted (Elf fault) old new = ⊥
 
 -- what a status says of the file that was read, and of what the sink got
 abbrev pub Tells : Settings → List ℕ → Status → Option (List ℕ) → Option (List ℕ) → Type 0
 Tells settings file (Elf fault) old new = HasElfFault file fault × Keeps old new
-Tells settings file status old new = ToldOf (HasFlowFault settings file) (IsAnswerOf settings file) status old new
+Tells settings file status old new =
+    ToldOf (HasFlowFault settings file) (HasManyBlocks settings file) (IsAnswerOf settings file) status old new
 
 -- the words give settings, the whole file was read, and the status says this of it
 abbrev pub Read : List (List ℕ) → Status → Option (List ℕ) → Option (List ℕ) → Option (List ℕ) → Option (List ℕ) → Type 0
@@ -103,7 +119,7 @@ Answers words Done left now old new = Read words Done left now old new
 Answers words WriteFault left now old new = Read words WriteFault left now old new
 Answers words (Elf fault) left now old new = Read words (Elf fault) left now old new
 Answers words (Flow fault) left now old new = Read words (Flow fault) left now old new
-Answers words (TooManyBlocks set count) left now old new = ⊥
+Answers words (TooManyBlocks set count) left now old new = Read words (TooManyBlocks set count) left now old new
 
 -- the words give settings, the file is within the limit, and the status says this of it
 abbrev pub Judges : List (List ℕ) → List ℕ → Status → Option (List ℕ) → Option (List ℕ) → Type 0
@@ -120,7 +136,7 @@ SaysOf words file FileTooBig old new = file_limit < length file
 SaysOf words file Usage old new = Unit {0}
 SaysOf words file OutOfMemory old new = Unit {0}
 SaysOf words file ReadFault old new = Unit {0}
-SaysOf words file (TooManyBlocks set count) old new = ⊥
+SaysOf words file (TooManyBlocks set count) old new = Judges words file (TooManyBlocks set count) old new
 
 -- the answer to words that give settings, where the file is told and no port fails: a report, the one refusal of the
 -- file, or want of memory
@@ -135,6 +151,12 @@ abbrev pub sent_as : Result (Unit {0}) SendStop → Result (Unit {0}) Status
 sent_as (Ok done) = Ok done
 sent_as (Err stops.Failed) = Err WriteFault
 sent_as (Err stops.OutOfMemory) = Err OutOfMemory
+
+-- the verdicts of nodes or why there are none, as a status
+abbrev pub settled_as : {V : Type 0} → Result V VerdictsFault → Result V Status
+settled_as (Ok verdicts) = Ok verdicts
+settled_as (Err (faults.TooManyBlocks set count)) = Err (TooManyBlocks set count)
+settled_as (Err faults.OutOfMemory) = Err OutOfMemory
 
 abbrev pub status_of : Result (Unit {0}) Status → Status
 status_of (Ok done) = Done

@@ -1,28 +1,40 @@
--- Where a line by address stands among the lines of a text.
-use Rattle.std.specs.Prelude.{◌≡◌, ℕ, ◌+◌, ◌*◌, ◌^◌, List, ◌∷◌, ◌++◌}
+-- The lines of a report as they are sent, one after another.
+use Rattle.std.specs.Prelude.{◌≡◌, ◌⊎◌, ℕ, ◌-◌, ◌^◌, Bool, List, ◌++◌, Option, Some, None}
 use Rattle.elf_spec.specs.Image.{Image}
+use Rattle.cache_spec.specs.Geometry.{Geometry}
+use Rattle.call_expand.specs.Expansion.{Expansion}
 use Rattle.report_spec.specs.declared.line.Line.{Line}
-use Rattle.report_spec.specs.declared.line.Line.TheVariants.{At, Context, Unreachable}
-use Rattle.report_spec.specs.Text.{line_text}
-use Rattle.text_lines.specs.Lines.{Said, lines_from}
+use Rattle.report_spec.specs.declared.line.Verdict.{Verdict}
+use Rattle.report_spec.specs.Text.{text_of, line_text}
+use Rattle.report_lines.specs.Findings.{AreFindings}
+use Rattle.report_lines.specs.Lines.{Stands, AreAllFrom}
 
--- the last address that a line speaks of
-abbrev pub last_of : Line → ℕ
-last_of (At at verdict) = at
-last_of (Context node at depth back verdict) = at
-last_of (Unreachable first last) = last
+-- the verdicts are right of an expanded program
+abbrev pub AreFound : Image → Expansion → List Verdict → Type 0
+AreFound image expanded verdicts =
+    (entry : ℕ) × (g : Geometry) × AreFindings image entry g expanded.configurations expanded.nodes verdicts
 
--- the lines from an address on are this one, and those from behind its last address on
-abbrev pub IsLineAt : Image → Said → ℕ → Line → Type 0
-IsLineAt image said at line =
-    (left : ℕ) → at + 4 * left ≡ 2 ^ 32 → (rest : ℕ) × (last_of line + 4 + 4 * rest ≡ 2 ^ 32)
-    × (lines_from image said at left ≡ line ∷ lines_from image said (last_of line + 4) rest)
+-- which line stands at a place
+abbrev pub StandsAt : Bool → Image → Expansion → List Verdict → ℕ → Option (Line × Option ℕ) → Type 0
+StandsAt contexts image expanded verdicts = Stands contexts image expanded.configurations expanded.nodes verdicts
 
--- some line stands there, ends at an address, and what was sent is the buffer and its text
-abbrev pub SendsLine : Image → Said → ℕ → (List ℕ → Type 0) → List ℕ → ℕ → Type 0
-SendsLine image said at Sent buffer last =
-    (line : Line) × IsLineAt image said at line × (last_of line ≡ last) × Sent (buffer ++ line_text line)
+-- the lines are all those of the program, and their text was sent
+abbrev pub SendsAll : Bool → Image → Expansion → List Verdict → (List ℕ → Type 0) → Type 0
+SendsAll contexts image expanded verdicts Sent =
+    (lines : List Line) × AreAllFrom (StandsAt contexts image expanded verdicts) (Some 0) lines × Sent (text_of lines)
 
--- some line stands there, and what was sent is of the buffer and its text
-abbrev pub SendsLineOf : Image → Said → ℕ → (List ℕ → Type 0) → List ℕ → Type 0
-SendsLineOf image said at Sent buffer = (line : Line) × IsLineAt image said at line × Sent (buffer ++ line_text line)
+-- the line at a place and the place behind it, and what was sent is the buffer and its text; or no line is left
+abbrev pub SendsNext : (ℕ → Option (Line × Option ℕ) → Type 0) → ℕ → (List ℕ → Type 0) → List ℕ → Option ℕ → Type 0
+SendsNext At from Sent buffer next =
+    (At from None × (next ≡ None) × Sent buffer)
+    ⊎ ((line : Line) × At from (Some (line, next)) × Sent (buffer ++ line_text line))
+
+-- a front of the buffer and the text of a line at the place was sent, or nothing
+abbrev pub SendsPart : (ℕ → Option (Line × Option ℕ) → Type 0) → ℕ → (List ℕ → Type 0) → List ℕ → Type 0
+SendsPart At from Sent buffer =
+    Sent buffer ⊎ ((line : Line) × (next : Option ℕ) × At from (Some (line, next)) × Sent (buffer ++ line_text line))
+
+-- what is left to go through
+abbrev pub left_from : Option ℕ → ℕ
+left_from None = 0
+left_from (Some place) = 2 ^ 32 - place

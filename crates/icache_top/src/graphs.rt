@@ -1,11 +1,11 @@
-// The texts of small graphs, and the programs that have none.
+// The texts of small graphs, and the programs that have neither a graph nor a report.
 use crate::Status;
-use crate::tests::{check, run_on, wrap};
+use crate::tests::{SMALL, check, run_on, wrap};
 use flow_spec::FlowFault;
 use std::alloc::{AllocError, Global};
 use std::test::Fail;
 
-/// A jump into a loop of two ways, both of which come back by way of 0x10010.
+/// The words that aren't plain of a jump into a loop of two ways, both of which come back by way of 0x10010.
 const TWO_WAYS: [(usize, u32); 9] = [
     (0x00, 0x0080006f),
     (0x04, 0x00100073),
@@ -18,8 +18,19 @@ const TWO_WAYS: [(usize, u32); 9] = [
     (0x104, 0xf01ff06f),
 ];
 
+/// The loop of two ways, up to 0x10104.
+pub(crate) fn two_ways(alloc: Global) -> Result<Vec<u32>, AllocError> {
+    let mut words = vec![in alloc; 0x13; 66]?;
+    for (place, word) in TWO_WAYS {
+        if let Some(old) = words.get_mut(place / 4) {
+            *old = word;
+        }
+    }
+    Ok(words)
+}
+
 /// So many functions, each of which calls the next one twice, and a last one that returns at once.
-fn doubling(alloc: Global, levels: usize) -> Result<Vec<u32>, AllocError> {
+pub(crate) fn doubling(alloc: Global, levels: usize) -> Result<Vec<u32>, AllocError> {
     let mut words = Vec::new(alloc);
     words.extend_from_slice(&[0x008000ef, 0x00100073])?;
     for _ in 0..levels {
@@ -80,12 +91,7 @@ fn graphs_have_a_line_for_each_configuration(rt: HostRuntime) -> Result<(), Fail
 #[test]
 fn two_ways_meet_again(rt: HostRuntime) -> Result<(), Fail> {
     let alloc = rt.alloc();
-    let mut words = vec![in alloc; 0x13; 66]?;
-    for (place, word) in TWO_WAYS {
-        if let Some(old) = words.get_mut(place / 4) {
-            *old = word;
-        }
-    }
+    let words = two_ways(alloc)?;
     let text = "#0 0x00010000 depth 0 back none next 1
 #1 0x00010008 depth 0 back none next 2 taken 3
 #2 0x0001000c depth 0 back none next 5
@@ -101,7 +107,7 @@ fn two_ways_meet_again(rt: HostRuntime) -> Result<(), Fail> {
 }
 
 #[test]
-fn a_program_without_a_graph_has_its_fault(rt: HostRuntime) -> Result<(), Fail> {
+fn a_program_that_is_refused_has_its_fault(rt: HostRuntime) -> Result<(), Fail> {
     let alloc = rt.alloc();
     let first = 0x10000;
     let cases: [(&[u32], FlowFault, &str); 8] = [
@@ -160,7 +166,9 @@ fn a_program_without_a_graph_has_its_fault(rt: HostRuntime) -> Result<(), Fail> 
         ),
     ];
     for (words, fault, text) in cases {
-        check(&rt, alloc, "graph", words, Status::Flow(fault), text)?;
+        for line in ["graph", SMALL] {
+            check(&rt, alloc, line, words, Status::Flow(fault), text)?;
+        }
     }
     Ok(())
 }

@@ -1,8 +1,8 @@
 //! All that the program does, as one call over ports that are handed in.
 //!
 //! Stands on the crates below: `top_words` reads the words, `byte_port` the file, `elf_image` the executable;
-//! `straight_walk` and `call_expand` say what it does, and `line_sender` sends the lines. `run` joins them, and its
-//! contract is about what it is handed: words, a source, and two sinks.
+//! `call_expand` expands its calls, `node_verdicts` finds the verdicts, `report_plan` the lines, and `line_sender` sends
+//! them. `run` joins them, and its contract is about what it is handed: words, a source, and two sinks.
 #![tactic(auto)]
 
 mod gate;
@@ -16,6 +16,8 @@ mod report;
 #[cfg(test)]
 mod tests;
 mod top;
+#[cfg(test)]
+mod verdicts;
 
 pub use gate::{Gate, IdleGate};
 pub use outcome::{JobRecord, Jobs, NodeWords, Outcome, Place, Places};

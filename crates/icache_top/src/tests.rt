@@ -51,7 +51,7 @@ pub(crate) struct Ran {
     pub(crate) err: SureSink,
 }
 
-fn words_of(alloc: Global, line: &str) -> Result<Vec<String>, AllocError> {
+pub(crate) fn words_of(alloc: Global, line: &str) -> Result<Vec<String>, AllocError> {
     let mut words = Vec::new(alloc);
     for word in line.split_whitespace() {
         words.push(String::from_str(alloc, word)?)?;
@@ -107,102 +107,31 @@ pub(crate) fn check<R: Threads + Sync + Abort>(
 pub(crate) const SMALL: &str = "classify --line 16 --sets 1 --ways 1";
 
 #[test]
-fn straight_programs_are_classified(rt: HostRuntime) -> Result<(), Fail> {
-    let two = "0x00010000 always-miss\n0x00010004 always-hit\n";
-    let alloc = rt.alloc();
-    check(&rt, alloc, SMALL, &[0x13, 0x100073], Status::Done, two)?;
-    let most = "classify --ways 16 --sets 4096";
-    check(&rt, alloc, most, &[0x13, 0x100073], Status::Done, two)?;
-    let least = "classify --ways 1 --line 4 --sets 1";
-    check(
-        &rt,
-        alloc,
-        least,
-        &[0x100073],
-        Status::Done,
-        "0x00010000 always-miss\n",
-    )?;
-    let behind = "0x00010000 always-miss\n0x00010004-0x00010004 unreachable\n";
-    check(
-        &rt,
-        alloc,
-        least,
-        &[0x100073, 0x100073],
-        Status::Done,
-        behind,
-    )?;
-    let far = "0x00010000 always-miss\n0x00010004-0x0001000c unreachable\n";
-    check(&rt, alloc, least, &[0x100073, 0, 1, 2], Status::Done, far)?;
-    Ok(())
-}
-
-#[test]
-fn plain_words_lead_to_a_stop(rt: HostRuntime) -> Result<(), Fail> {
-    let words = [0x02a58533, 0x00000073, 0x30200073];
-    let text = "0x00010000 always-miss\n0x00010004 always-hit\n0x00010008 always-hit\n";
-    check(&rt, rt.alloc(), SMALL, &words, Status::Done, text)?;
-    Ok(())
-}
-
-#[test]
-fn each_word_that_is_not_followed_has_its_fault(rt: HostRuntime) -> Result<(), Fail> {
-    let alloc = rt.alloc();
-    let word = 0xffffffff;
-    let illegal = Status::Flow(FlowFault::Illegal { at: 0x10000, word });
-    let text = "icache: illegal word 0xffffffff at 0x00010000\n";
-    check(&rt, alloc, SMALL, &[word], illegal, text)?;
-    let lone = Status::Flow(FlowFault::NotBuilt { at: 0x10000 });
-    let text = "icache: not built yet at 0x00010000\n";
-    check(&rt, alloc, SMALL, &[0x00008067], lone, text)?;
-    let paired = Status::Flow(FlowFault::NotBuilt { at: 0x10004 });
-    let text = "icache: not built yet at 0x00010004\n";
-    let pair = [0x00000097, 0x00c080e7, 0x00100073, 0x00008067];
-    check(&rt, alloc, SMALL, &pair, paired, text)?;
-    Ok(())
-}
-
-#[test]
-fn each_refusal_has_its_text(rt: HostRuntime) -> Result<(), Fail> {
-    let alloc = rt.alloc();
-    let jump = Status::Flow(FlowFault::NotBuilt { at: 0x10000 });
-    check(
-        &rt,
-        alloc,
-        SMALL,
-        &[0x6f],
-        jump,
-        "icache: not built yet at 0x00010000\n",
-    )?;
-    let branch = Status::Flow(FlowFault::NotBuilt { at: 0x10004 });
-    let loops = [0x13, 0xfe051ee3, 0x100073];
-    check(
-        &rt,
-        alloc,
-        SMALL,
-        &loops,
-        branch,
-        "icache: not built yet at 0x00010004\n",
-    )?;
-    let left = Status::Flow(FlowFault::BadTarget {
-        at: 0x10000,
-        target: 0x10004,
-    });
-    let text = "icache: bad target 0x00010004 at 0x00010000\n";
-    check(&rt, alloc, SMALL, &[0x13], left, text)?;
+fn faulty_words_get_the_usage_text(rt: HostRuntime) -> Result<(), Fail> {
     for line in [
         "",
         "--help",
         "classify --line 12",
         "classify --ways 0",
+        "classify --contexts --contexts",
+        "classify --contexts 1",
         "classify --entry 10000",
         "classify --entry 0x",
         "classify --entry 0x123456789",
         "classify --entry 0x1000g",
         "classify --entry 0x10000 --entry 0x10000",
         "graph --line 4",
+        "graph --contexts",
         "graph --entry",
     ] {
-        check(&rt, alloc, line, &[0x13, 0x100073], Status::Usage, USAGE)?;
+        check(
+            &rt,
+            rt.alloc(),
+            line,
+            &[0x13, 0x100073],
+            Status::Usage,
+            USAGE,
+        )?;
     }
     Ok(())
 }
@@ -278,41 +207,6 @@ fn a_file_that_is_empty_or_too_big_is_refused(rt: HostRuntime) -> Result<(), Fai
         assert!(rt; out.sent().is_empty());
         assert_eq!(rt; err.sent(), text.as_bytes());
     }
-    Ok(())
-}
-
-/// How many lines end in a text.
-fn lines_with(text: &[u8], end: &str) -> usize {
-    text.split(|byte| *byte == b'\n')
-        .filter(|line| line.ends_with(end.as_bytes()))
-        .count()
-}
-
-#[test]
-fn the_greatest_programs_are_classified(rt: HostRuntime) -> Result<(), Fail> {
-    let alloc = rt.alloc();
-    let words = nops(alloc, 65535, 0x100073)?;
-    let file = wrap(alloc, &words)?;
-    let long = run_on(&rt, alloc, "classify --line 256 --sets 16 --ways 1", file)?;
-    assert_eq!(rt; long.outcome.status, Status::Done);
-    assert_eq!(rt; lines_with(long.out.sent(), "00 always-miss"), 1024);
-    assert_eq!(rt; lines_with(long.out.sent(), "always-hit"), 64512);
-    let words = nops(alloc, 65536, 0x100073)?;
-    let file = wrap(alloc, &words)?;
-    let longer = run_on(&rt, alloc, "classify --line 256 --sets 16 --ways 1", file)?;
-    let many = FlowFault::TooManyFetches { limit: 65536 };
-    assert_eq!(rt; longer.outcome.status, Status::Flow(many));
-    assert_eq!(rt; longer.outcome.status.code(), 8);
-    assert_eq!(rt;
-        longer.err.sent(),
-        b"icache: fetches above 65536\n".as_slice()
-    );
-    let words = nops(alloc, 1023, 0x100073)?;
-    let file = wrap(alloc, &words)?;
-    let wide = run_on(&rt, alloc, "classify --line 4 --sets 1 --ways 4", file)?;
-    assert_eq!(rt; wide.outcome.status, Status::Done);
-    assert_eq!(rt; lines_with(wide.out.sent(), "always-miss"), 1024);
-    assert_eq!(rt; lines_with(wide.out.sent(), "always-hit"), 0);
     Ok(())
 }
 

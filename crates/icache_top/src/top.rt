@@ -1,19 +1,16 @@
-ghost use Rattle.std.specs.Prelude.{◌≡◌, ◌≢◌, ◌↔◌, ℕ, ◌≤◌, false, List, [], Some, None, IsNone, IsSome, IfSome, IfOk, IfErr, length};
+ghost use Rattle.std.specs.Prelude.{◌≡◌, ◌≢◌, ◌↔◌, ℕ, ◌≤◌, List, [], Option, Some, IsNone, IsSome, IfSome, IfErr, length};
 ghost use Rattle.std.specs.Io.KnownBytes.{Keeps};
 ghost use Rattle.byte_port.specs.Count.{Rose};
 ghost use Rattle.command_spec.specs.Settings.{settings_of};
 ghost use Rattle.top_words.specs.Views.{bytes_of};
 ghost use Rattle.top_words.specs.FaultText.{fault_text};
 ghost use Rattle.flow_spec.specs.Acceptance.{IsRefused};
-ghost use Rattle.flow_spec.specs.Straight.{built_successors};
 ghost use Rattle.flow_spec.specs.Successors.{successors};
-ghost use Rattle.report_spec.specs.Graph.{IsGraphText};
-ghost use Rattle.report_spec.specs.Report.{IsReport};
-ghost use Rattle.text_lines.specs.Lines.{IsWithin};
-ghost use Rattle.icache_top.specs.Answer.{Answers, CountsOut, CountsSource, Decides, IsProgramText, Reports, SaysOf, Tells, ToldOf, sent_as, status_of, file_limit};
+ghost use Rattle.report_lines.specs.Findings.{IsWithin};
+ghost use Rattle.icache_top.specs.Answer.{Answers, CountsOut, CountsSource, Decides, IsAcceptedWith, IsTextFrom, IsTooMuchFor, Reports, SaysOf, Tells, ToldOf, sent_as, settled_as, status_of, file_limit};
 
 use crate::graph::send_graph;
-use crate::report::send_report;
+use crate::report::{Findings, send_report};
 use crate::{Gate, Jobs, NodeWords, Outcome, Status};
 use byte_port::{Sink, Source, read_all, send_all};
 use cache_geom::Geometry;
@@ -21,10 +18,11 @@ use call_expand::expand;
 use command_spec::Settings;
 use elf_image::Image;
 use line_sender::SendStop;
+use node_verdicts::{VerdictsFault, node_verdicts};
 use std::alloc::Global;
 use std::thread::Threads;
-use straight_walk::{Cache, Walked, walk};
 use top_words::{read_words, text_of};
+use verdict_report::Verdict;
 
 /// The most bytes that a file may have.
 const FILE_LIMIT: usize = 16777216;
@@ -117,14 +115,13 @@ fn answer_file<O: Sink>(
 {
     let image = elf_image::read(alloc, file)?;
     match *settings {
-        Settings::Classify { geometry, entry } => {
-            classify(
-                alloc,
-                out,
-                &image,
-                &geometry,
-                entry.unwrap_or(image.entry()),
-            )
+        Settings::Classify {
+            geometry,
+            entry,
+            contexts,
+        } => {
+            let entry = entry.unwrap_or(image.entry());
+            classify(alloc, out, &image, &geometry, entry, contexts)
         }
         Settings::Graph { entry } => graph(alloc, out, &image, entry.unwrap_or(image.entry())),
     }
@@ -137,29 +134,52 @@ fn classify<O: Sink>(
     image: &Image,
     geometry: &Geometry,
     entry: u32,
+    contexts: bool,
 ) -> Result<(), Status>
     requires { IsWithin image.now }
     ensures not_done { IfErr result (λ status. status ≢ Status.Done) }
-    ensures told { ToldOf (IsRefused (built_successors image.now entry) image.now entry)
-        (IsProgramText (built_successors image.now entry) image.now entry (IsReport image.now entry geometry.now false))
+    ensures told { (words_entry : Option ℕ) → let settings = Settings.Classify geometry.now words_entry contexts in
+        ToldOf (IsRefused (successors image.now entry) image.now entry)
+        (λ set count. IsAcceptedWith image.now entry (λ layers. IsTooMuchFor settings layers set count))
+        (λ text. IsAcceptedWith image.now entry (λ layers. IsTextFrom settings image.now entry layers text))
         (status_of result) (O.sent out.old) (O.sent out.new) }
     ensures writes { CountsOut (status_of result) (O.faults out.old) (O.faults out.new) }
 {
-    let mut cache = Cache::empty(alloc, geometry)?;
-    let walked = walk(alloc, image, entry, &mut cache)?;
-    sent(send_report(alloc, out, image, &walked))
+    let expanded = expand(alloc, image, entry)?;
+    let verdicts = settled(node_verdicts(alloc, expanded.graph(), geometry))?;
+    let found = Findings {
+        image,
+        expanded: &expanded,
+        verdicts: &verdicts,
+    };
+    sent(send_report(alloc, out, &found, contexts))
 }
 
 /// Sends the text of a program's graph.
 fn graph<O: Sink>(alloc: Global, out: &mut O, image: &Image, entry: u32) -> Result<(), Status>
     ensures not_done { IfErr result (λ status. status ≢ Status.Done) }
-    ensures told { ToldOf (IsRefused (successors image.now entry) image.now entry)
-        (IsProgramText (successors image.now entry) image.now entry (IsGraphText image.now entry))
+    ensures told { (words_entry : Option ℕ) → let settings = Settings.Graph words_entry in
+        ToldOf (IsRefused (successors image.now entry) image.now entry)
+        (λ set count. IsAcceptedWith image.now entry (λ layers. IsTooMuchFor settings layers set count))
+        (λ text. IsAcceptedWith image.now entry (λ layers. IsTextFrom settings image.now entry layers text))
         (status_of result) (O.sent out.old) (O.sent out.new) }
     ensures writes { CountsOut (status_of result) (O.faults out.old) (O.faults out.new) }
 {
     let expanded = expand(alloc, image, entry)?;
     sent(send_graph(alloc, out, &expanded))
+}
+
+/// The verdicts that were found, or why there are none, as a status.
+fn settled(found: Result<Vec<Verdict>, VerdictsFault>) -> Result<Vec<Verdict>, Status>
+    ensures { result ≡ settled_as found }
+{
+    match found {
+        Ok(verdicts) => Ok(verdicts),
+        Err(VerdictsFault::TooManyBlocks { set, count }) => {
+            Err(Status::TooManyBlocks { set, count })
+        }
+        Err(VerdictsFault::OutOfMemory) => Err(Status::OutOfMemory),
+    }
 }
 
 /// How a sending ended, as a status.

@@ -1,6 +1,5 @@
 -- Texts of hexadecimal digits: what `from_str_radix` makes of them.
-use Rattle.std.proofs.Common.{◌≡◌, ◌≢◌, ◌<◌, ◌≤◌, ◌^◌, ◌*◌, ℕ, ◌&&◌, ◌||◌, Bool, List, [], ◌∷◌, length, true, false, Some, Result, Ok, Err, refl, ap, sym, ◌∙◌, subst, arith, get_or}
-use Rattle.std.specs.Prelude.{nat_lt, nat_le}
+use Rattle.std.proofs.Common.{◌≡◌, ◌≢◌, ◌<◌, ◌≤◌, ◌^◌, ℕ, ◌&&◌, Bool, List, [], ◌∷◌, length, true, false, Some, Result, Ok, Err, refl, ap, sym, ◌∙◌, subst, arith, get_or}
 use Rattle.std.specs.Char.{is_ascii_hexdigit, digit_value}
 use Rattle.std.specs.List.{list_all}
 use Rattle.std.specs.Str.Parse.{AllDigits, IsNumeral, digits_value, without_leading_plus, ParsesUnsigned}

@@ -1,3 +1,3 @@
 pub mod Digits
 pub mod Hex
-pub mod Pairs
+pub mod Walked

@@ -49,7 +49,6 @@ flow_text (flow.ComputedJump at) = placed (codes "computed jump at ") at
 flow_text (flow.BadTarget at target) = met_text (codes "bad target ") target at
 flow_text (flow.Recursion at) = placed (codes "recursion at ") at
 flow_text (flow.TooManyFetches limit) = counted (codes "fetches above ") limit
-flow_text (flow.NotBuilt at) = placed (codes "not built yet at ") at
 flow_text flow.OutOfMemory = codes "out of memory"
 
 abbrev pub usage_text : List ℕ

@@ -1,4 +1,5 @@
 pub mod Views
 pub mod Names
+pub mod Walk
 pub mod Status
 pub mod FaultText

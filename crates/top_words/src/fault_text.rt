@@ -103,7 +103,6 @@ fn push_flow(text: &mut ShortText, fault: &FlowFault)
         FlowFault::TooManyFetches { limit } => {
             text.push_counted(b"fetches above ", *limit as u64)
         }
-        FlowFault::NotBuilt { at } => text.push_placed(b"not built yet at ", *at),
         FlowFault::OutOfMemory => text.push(b"out of memory"),
     }
 }

@@ -16,10 +16,14 @@ fn settings_of(alloc: Global, line: &str) -> Result<Option<Settings>, AllocError
 }
 
 /// The settings of `classify` with these line, sets and ways.
-fn classify(shape: (u32, u32, u32), entry: Option<u32>) -> Option<Settings> {
+fn classify(shape: (u32, u32, u32), entry: Option<u32>, contexts: bool) -> Option<Settings> {
     let (line, sets, ways) = shape;
     let geometry = Geometry::new(line, sets, ways)?;
-    Some(Settings::Classify { geometry, entry })
+    Some(Settings::Classify {
+        geometry,
+        entry,
+        contexts,
+    })
 }
 
 #[test]
@@ -42,7 +46,25 @@ fn options_have_defaults_and_stand_in_any_order(rt: HostRuntime) -> Result<(), F
             Some(0xfffffff0),
         ),
     ] {
-        let wanted = classify(shape, entry);
+        let wanted = classify(shape, entry, false);
+        assert_eq!(rt; settings_of(rt.alloc(), line)?, wanted, "at {line}");
+    }
+    Ok(())
+}
+
+#[test]
+fn contexts_has_no_value_and_stands_in_any_place(rt: HostRuntime) -> Result<(), Fail> {
+    for (line, shape, entry) in [
+        ("classify --contexts", (32, 64, 4), None),
+        (
+            "classify --contexts --line 16 --entry 0x10",
+            (16, 64, 4),
+            Some(0x10),
+        ),
+        ("classify --sets 1 --contexts --ways 1", (32, 1, 1), None),
+        ("classify --ways 2 --contexts", (32, 64, 2), None),
+    ] {
+        let wanted = classify(shape, entry, true);
         assert_eq!(rt; settings_of(rt.alloc(), line)?, wanted, "at {line}");
     }
     Ok(())
@@ -85,6 +107,11 @@ fn other_words_give_no_settings(rt: HostRuntime) -> Result<(), Fail> {
         "classify --entry 0x",
         "classify --entry 0x000010000",
         "classify --entry 0x1000g",
+        "classify --contexts --contexts",
+        "classify --contexts --line 16 --contexts",
+        "classify --contexts 1",
+        "classify --line --contexts",
+        "graph --contexts",
     ] {
         assert_eq!(rt; settings_of(rt.alloc(), line)?, None, "at {line}");
     }
@@ -207,11 +234,6 @@ fn a_program_that_is_not_accepted_has_code_7_and_its_reason(rt: HostRuntime) {
             FlowFault::TooManyFetches { limit: 65536 },
             8,
             "icache: fetches above 65536\n",
-        ),
-        (
-            FlowFault::NotBuilt { at },
-            7,
-            "icache: not built yet at 0x00010000\n",
         ),
     ] {
         let status = Status::from(fault);

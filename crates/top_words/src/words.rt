@@ -3,7 +3,7 @@ ghost use Rattle.command_spec.specs.Settings.{settings_of, classify_settings, gr
 ghost use Rattle.top_words.specs.Views.{bytes_of};
 
 use crate::number::{address_of, number_of};
-use crate::options::{Command, is_plain, value_of};
+use crate::options::{Command, has_option, is_plain, value_of};
 use cache_geom::Geometry;
 use command_spec::Settings;
 
@@ -29,7 +29,12 @@ fn classify_settings(words: &[String]) -> Option<Settings>
     }
     let geometry = geometry_in(words)?;
     let entry = entry_in(words)?;
-    Some(Settings::Classify { geometry, entry })
+    let contexts = has_option(words, "--contexts");
+    Some(Settings::Classify {
+        geometry,
+        entry,
+        contexts,
+    })
 }
 
 fn graph_settings(words: &[String]) -> Option<Settings>

@@ -2,7 +2,7 @@
 use Rattle.std.specs.Prelude.{ℕ, Bool, true, false, List, [], ◌∷◌, Ok, Err}
 use Rattle.riscv_spec.specs.declared.kind.Link.TheVariants.{X1, X5}
 use Rattle.flow_spec.specs.declared.frame.Frame.{Frame}
-use Rattle.flow_spec.specs.declared.fault.FlowFault.TheVariants.{Illegal, ComputedJump, BadTarget, Recursion, NotBuilt}
+use Rattle.flow_spec.specs.declared.fault.FlowFault.TheVariants.{Illegal, ComputedJump, BadTarget, Recursion}
 use Rattle.flow_spec.specs.Configuration.{Configuration, configuration}
 use Rattle.flow_spec.specs.Successors.{Successors}
 use Rattle.worked_examples.specs.Programs.{frame, at, in_call, loop, two_calls, pair_call, branch_onto_pair, call_by_x5, crossed_links, nested, call_at_end, calls_itself}
@@ -67,11 +67,3 @@ worked_faults =
 -- addresses of the program with a branch onto a pair, each with whether it is a good target
 abbrev pub worked_targets : List (ℕ × Bool)
 worked_targets = (0x10004, true) ∷ (0x10008, false) ∷ (0x1000c, false) ∷ []
-
--- addresses of the loop, each with what follows of the words that are followed today
-abbrev pub worked_followed : List (ℕ × Successors)
-worked_followed =
-    (0x10000, Ok (at 0x10004 ∷ []))
-    ∷ (0x10004, Err (NotBuilt 0x10004))
-    ∷ (0x10008, Ok [])
-    ∷ []

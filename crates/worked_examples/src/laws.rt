@@ -6,7 +6,6 @@ ghost use Rattle.elf_spec.specs.Word.{word_at};
 ghost use Rattle.flow_spec.specs.declared.fault.FlowFault.TheVariants.{BadEntry, BadTarget, Illegal};
 ghost use Rattle.flow_spec.specs.Configuration.{start_of};
 ghost use Rattle.flow_spec.specs.Order.{configuration_cmp};
-ghost use Rattle.flow_spec.specs.Straight.{built_successors};
 ghost use Rattle.flow_spec.specs.Successors.{successors};
 ghost use Rattle.flow_spec.specs.Transfer.{is_good_target};
 ghost use Rattle.report_spec.specs.Report.{IsReport};
@@ -15,9 +14,9 @@ ghost use Rattle.transition_spec.specs.Named.{Names};
 ghost use Rattle.transition_spec.specs.Path.{IsPath};
 ghost use Rattle.worked_examples.specs.Caches.{geometry, worked_touches, worked_hits};
 ghost use Rattle.worked_examples.specs.Files.{two_words, two_words_image, worked_places, worked_refusals};
-ghost use Rattle.worked_examples.specs.Flows.{worked_moves, worked_calls, worked_faults, worked_targets, worked_followed};
+ghost use Rattle.worked_examples.specs.Flows.{worked_moves, worked_calls, worked_faults, worked_targets};
 ghost use Rattle.worked_examples.specs.Orders.{worked_order};
-ghost use Rattle.worked_examples.specs.Programs.{program_of, loop, loop_and_rest, branch_onto_pair, at};
+ghost use Rattle.worked_examples.specs.Programs.{program_of, loop, loop_and_rest, branch_onto_pair};
 ghost use Rattle.worked_examples.specs.Reports.{IsAcceptedIn, IsRefusedFrom, loop_layers, two_faults, loop_report, loop_context_report};
 ghost use Rattle.worked_examples.specs.Segments.{segments_of, worked_segments, worked_edges};
 ghost use Rattle.worked_examples.specs.Texts.{worked_lines};
@@ -43,7 +42,6 @@ pub fn worked_flows()
     ensures moves { map (λ f. successors (program_of f.0) 0x10000 f.1) worked_moves ≡ map (λ f. f.2) worked_moves }
     ensures calls { map (λ f. successors (program_of f.0) 0x10000 f.1) worked_calls ≡ map (λ f. f.2) worked_calls }
     ensures targets { map (λ t. is_good_target (program_of branch_onto_pair) t.0) worked_targets ≡ map (λ t. t.1) worked_targets }
-    ensures followed { map (λ a. built_successors (program_of loop) 0x10000 (at a.0)) worked_followed ≡ map (λ a. a.1) worked_followed }
 {}
 
 /// Words that lead nowhere good have their faults.

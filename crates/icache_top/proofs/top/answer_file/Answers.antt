@@ -24,20 +24,22 @@ pub returns-in-Classify-clause-told : goal.returns-in-Classify-clause-told
 returns-in-Classify-clause-told g c =
     let file = c.args.file.items in
     let image = c.in_ok-image.image in
-    let settings = Classify c.in-Classify.geometry c.in-Classify.entry in
-    let entry : c.unwrap_or.result ≡ entry_of settings image =
-    c.unwrap_or.ensures ∙ ap (λ own. unwrap_or c.in-Classify.entry own) c.entry.ensures in
+    let settings = Classify c.in-Classify.geometry c.in-Classify.entry c.in-Classify.contexts in
+    let entry : c.unwrap_or-entry.result ≡ entry_of settings image =
+    c.unwrap_or-entry.ensures ∙ ap (λ own. unwrap_or c.in-Classify.entry own) c.entry.ensures in
     let P : Settings → Type 0 =
     λ settings. Tells settings file (status_of c.classify.result) (g.O.Sink.sent c.args.out.now) (g.O.Sink.sent c.classify.new.out) in
-    subst P (sym c.in-Classify.is) (program_told settings file image c.unwrap_or.result (status_of c.classify.result) _ _ c.in_ok-image.ensures.image entry c.classify.ensures.told)
+    subst P (sym c.in-Classify.is) (program_told settings file image c.unwrap_or-entry.result (status_of c.classify.result) _ _ c.in_ok-image.ensures.image entry
+    (c.classify.ensures.told c.in-Classify.entry))
 
 pub returns-clause-told : goal.returns-clause-told
 returns-clause-told g c =
     let file = c.args.file.items in
     let image = c.in_ok-image.image in
     let settings = Graph c.in-Graph.entry in
-    let entry : c.unwrap_or-in-Graph.result ≡ entry_of settings image =
-    c.unwrap_or-in-Graph.ensures ∙ ap (λ own. unwrap_or c.in-Graph.entry own) c.entry-in-Graph.ensures in
+    let entry : c.unwrap_or.result ≡ entry_of settings image =
+    c.unwrap_or.ensures ∙ ap (λ own. unwrap_or c.in-Graph.entry own) c.entry-in-Graph.ensures in
     let P : Settings → Type 0 =
     λ settings. Tells settings file (status_of c.graph.result) (g.O.Sink.sent c.args.out.now) (g.O.Sink.sent c.graph.new.out) in
-    subst P (sym c.in-Graph.is) (program_told settings file image c.unwrap_or-in-Graph.result (status_of c.graph.result) _ _ c.in_ok-image.ensures.image entry c.graph.ensures.told)
+    subst P (sym c.in-Graph.is) (program_told settings file image c.unwrap_or.result (status_of c.graph.result) _ _ c.in_ok-image.ensures.image entry
+    (c.graph.ensures.told c.in-Graph.entry))

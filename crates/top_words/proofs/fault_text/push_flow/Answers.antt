@@ -12,7 +12,3 @@ returns-in-Recursion-clause-text c = rw c.in-Recursion.is c.push_placed-in-Recur
 pub returns-in-TooManyFetches-clause-text : goal.returns-in-TooManyFetches-clause-text
 unfolding flow_text
 returns-in-TooManyFetches-clause-text c = rw c.in-TooManyFetches.is c.push_counted.ensures.text
-
-pub returns-in-NotBuilt-clause-text : goal.returns-in-NotBuilt-clause-text
-unfolding flow_text
-returns-in-NotBuilt-clause-text c = rw c.in-NotBuilt.is c.push_placed-in-NotBuilt.ensures.text

@@ -1,19 +1,36 @@
-use Rattle.std.proofs.Common.{rules, ◌≡◌, ◌∙◌, sym, nat_eq, length}
+use Rattle.std.proofs.Common.{◌∙◌, sym, ap, ◌&&◌}
+use Rattle.command_spec.specs.Plain.{is_plain}
 use Rattle.top_words.specs.Names.{names_of}
-use Rattle.top_words.proofs.Pairs.{is_plain-pair, is_plain-short}
+use Rattle.top_words.specs.Views.{bytes_of}
+use Rattle.top_words.proofs.Walked.{IsOption, is_plain-option}
 use Rattle.top_words.proofs.options.is_plain.Goals as goal
 
-pub returns-then-not-is_new_name : goal.returns-then-not-is_new_name
-returns-then-not-is_new_name c =
-    let pair = is_plain-pair (names_of c.args.command) c.loop-left.left.now c.name-item.result c.is_new_name.result (search rules) c.name-item.is (search rules) in
-    sym (c.loop-left.invariant ∙ rw (pair, c.if-not-is_new_name.true))
+pub returns-then-not-is_new : goal.returns-then-not-is_new
+returns-then-not-is_new c =
+    let names = names_of c.args.command in
+    let rest = c.in-Some.rest.now in
+    let option : IsOption c.loop-left.left.now c.first-item.result c.as_str-word.result.now rest =
+    record {
+      some = c.in-len1-up.len_at_least;
+      first_is = c.first-item.is;
+      text_is = c.as_str-word.ensures.value;
+      rest_is = c.in-Some.ensures.rest;
+    } in
+    let known = is_plain-option names c.loop-left.left.now c.first-item.result c.as_str-word.result.now rest option in
+    let old = sym c.is_new.ensures ∙ c.if-not-is_new.true in
+    sym (c.loop-left.invariant ∙ known ∙ ap (λ new. new && is_plain names (bytes_of rest)) old)
 
 pub loop-left-preserved : goal.loop-left-preserved
 loop-left-preserved c =
-    let pair = is_plain-pair (names_of c.args.command) c.loop-left.left.now c.name-item.result c.is_new_name.result (search rules) c.name-item.is (search rules) in
-    c.loop-left.invariant ∙ rw (pair, c.if-not-is_new_name.false)
-
-pub returns : goal.returns
-returns c =
-    let empty : c.is_empty.result ≡ nat_eq (length c.loop-left.left.now) 0 = search rules in
-    empty ∙ sym (c.loop-left.invariant ∙ is_plain-short (names_of c.args.command) c.loop-left.left.now c.in_default.len_below)
+    let names = names_of c.args.command in
+    let rest = c.in-Some.rest.now in
+    let option : IsOption c.loop-left.left.now c.first-item.result c.as_str-word.result.now rest =
+    record {
+      some = c.in-len1-up.len_at_least;
+      first_is = c.first-item.is;
+      text_is = c.as_str-word.ensures.value;
+      rest_is = c.in-Some.ensures.rest;
+    } in
+    let known = is_plain-option names c.loop-left.left.now c.first-item.result c.as_str-word.result.now rest option in
+    let new = sym c.is_new.ensures ∙ c.if-not-is_new.false in
+    c.loop-left.invariant ∙ known ∙ ap (λ new. new && is_plain names (bytes_of rest)) new

@@ -18,7 +18,3 @@ returns-clause-calls c = refl
 pub returns-clause-targets : goal.returns-clause-targets
 unfolding word_at pair_of
 returns-clause-targets c = refl
-
-pub returns-clause-followed : goal.returns-clause-followed
-unfolding successors next_at word_at kind_of pair_of
-returns-clause-followed c = refl
