@@ -2,6 +2,7 @@ use crate::{Outcome, judge, settle};
 use cache_geom::Geometry;
 use path_model::{Graph, Node, ends_in_hit, follow};
 use path_trail::Way;
+use plain_family::PlainFamily;
 use set_view::view;
 use std::alloc::Global;
 use std::test::Fail;
@@ -141,6 +142,53 @@ fn what_is_settled_has_ways_and_sets_where_paths_are(rt: HostRuntime) -> Result<
         assert_eq!(rt; place.most.is_some(), *kept);
     }
     Ok(())
+}
+
+fn node(at: u32, first: Option<u32>, second: Option<u32>) -> Node {
+    Node { at, first, second }
+}
+
+#[test]
+fn two_arms_that_meet_leave_one_set(rt: HostRuntime) -> Result<(), Fail> {
+    let alloc = rt.alloc();
+    let nodes = [
+        node(0x10000, Some(1), None),
+        node(0x10008, Some(2), Some(3)),
+        node(0x1000c, Some(5), None),
+        node(0x10080, Some(4), None),
+        node(0x10010, Some(6), None),
+        node(0x10100, Some(4), None),
+        node(0x10084, Some(7), None),
+        node(0x10104, Some(8), None),
+        node(0x10004, None, None),
+    ];
+    let graph = Graph::new(Vec::from_slice(alloc, &nodes)?).expect(&rt, "a graph");
+    let geometry = Geometry::new(8, 16, 3).expect(&rt, "in range");
+    assert!(rt; 0 < geometry.sets());
+    let seen = view(alloc, &graph, &geometry, 0)?;
+    assert_eq!(rt; seen.blocks(), [0x2000, 0x2010, 0x2020].as_slice());
+    assert!(rt; 0 < seen.blocks().len());
+    let settled = settle(alloc, &seen, 0)?;
+    let both: &[u16] = &[1, 2];
+    let expected = [(0, None), (8, Some(both))];
+    assert_eq!(rt; settled.places.len(), expected.len());
+    for (place, (node, set)) in settled.places.iter().zip(&expected) {
+        assert_eq!(rt; place.node, *node);
+        assert_eq!(rt; only_set(&place.least), *set);
+        assert_eq!(rt; place.most.is_some(), set.is_some());
+        if let Some(most) = &place.most {
+            assert_eq!(rt; only_set(most), *set);
+        }
+    }
+    Ok(())
+}
+
+// The numbers of the family's set, if it has just one.
+fn only_set(family: &PlainFamily) -> Option<&[u16]> {
+    match family.sets() {
+        [set] => Some(set.items()),
+        _ => None,
+    }
 }
 
 // The steps and the choices of a way, if there is one.
