@@ -1,5 +1,5 @@
 -- What a fetch makes of the blocks of an LRU set.
-use Rattle.std.proofs.Common.{◌≡◌, ℕ, ◌+◌, ◌-◌, ◌<◌, ◌≤◌, min, max, true, false, not, suc, zero, IsFalse, ◌==◌, nat_lt, List, [], ◌∷◌, ◌++◌, length, take, drop, filter, replicate, refl, ap, sym, ◌∙◌, arith, rules, subst, inl, inr, eq-eqb, drop-drop, Option}
+use Rattle.std.proofs.Common.{◌≡◌, ℕ, ◌+◌, ◌-◌, ◌<◌, ◌≤◌, min, max, true, false, not, suc, zero, IsFalse, ◌==◌, nat_lt, List, [], ◌∷◌, ◌++◌, length, take, drop, replicate, refl, ap, sym, ◌∙◌, arith, rules, subst, inl, inr, eq-eqb, drop-drop, Option}
 use Rattle.std.specs.List.{position, position_or_len}
 use Rattle.std.specs.Option.{unwrap_or, is_some}
 use Rattle.std.proofs.lemmas.Grind.{common_steps}
@@ -8,7 +8,8 @@ use Rattle.std.proofs.lemmas.List.{places, same_lists, drop-replicate}
 use Rattle.std.proofs.lemmas.Bool.{cases_eq, ne_eqb}
 use Rattle.std.proofs.lemmas.List.Sums.{prefix_len-le-length}
 use Rattle.cache_spec.specs.Lru.{touch, is_in}
-use Rattle.cache_geom.specs.LruSet.{AreDistinct, IsSound}
+use Rattle.cache_spec.specs.Distinct.{AreDistinct, others, others-absent, fetched-distinct, is_in-take}
+use Rattle.cache_geom.specs.LruSet.{IsSound}
 use Rattle.cache_geom.specs.Slots.{length-blocks}
 
 -- the place of the block, or how many blocks there are
@@ -22,15 +23,6 @@ place_of-le blocks block = prefix_len-le-length (λ other. not (other == block))
 -- the same, as the code finds it
 pub place_of_found : (blocks : List ℕ) (block : ℕ) → unwrap_or (position (λ other. other == block) blocks) (length blocks) ≡ place_of blocks block
 place_of_found blocks block = grind (arith, nat_tests, common_steps, place_of-le blocks block)
-
--- the blocks other than this one
-abbrev pub others : List ℕ → ℕ → List ℕ
-others blocks block = filter (λ other. not (other == block)) blocks
-
--- where the block is not there, all blocks are others
-others-absent : (block : ℕ) (blocks : List ℕ) → IsFalse (is_in blocks block) → others blocks block ≡ blocks
-others-absent block [] absent = refl
-others-absent block (other ∷ blocks) absent = grind (arith, nat_tests, common_steps, others-absent block blocks)
 
 -- the others are the blocks before the place and those after it
 abbrev pub IsSplit : List ℕ → ℕ → Type 0
@@ -64,27 +56,6 @@ is_in-at_place block (other ∷ blocks) = grind (arith, nat_tests, common_steps,
 pub is_in-found : (block : ℕ) (blocks : List ℕ) → is_in blocks block ≡ is_some (position (λ other. other == block) blocks)
 is_in-found block blocks = grind (arith, nat_tests, is_in-at_place block blocks)
 
--- a block that is not there is not among the others
-is_in-others : (block kept : ℕ) (blocks : List ℕ) → IsFalse (is_in blocks kept) → IsFalse (is_in (others blocks block) kept)
-is_in-others block kept [] absent = refl
-is_in-others block kept (other ∷ blocks) absent = grind (arith, nat_tests, common_steps, is_in-others block kept blocks)
-
--- the block itself is not among the others
-is_in-others_same : (block : ℕ) (blocks : List ℕ) → IsFalse (is_in (others blocks block) block)
-is_in-others_same block [] = refl
-is_in-others_same block (other ∷ blocks) = grind (arith, nat_tests, common_steps, is_in-others_same block blocks)
-
--- the others of distinct blocks are distinct
-others-distinct : (block : ℕ) (blocks : List ℕ) → AreDistinct blocks → AreDistinct (others blocks block)
-others-distinct block [] distinct = tt
-others-distinct block (other ∷ blocks) distinct = grind (arith, nat_tests, common_steps, is_in-others block other blocks, others-distinct block blocks distinct.1)
-
--- a block that is not there is not among the first n
-is_in-take : (n block : ℕ) (blocks : List ℕ) → IsFalse (is_in blocks block) → IsFalse (is_in (take n blocks) block)
-is_in-take zero block blocks absent = refl
-is_in-take (suc n) block [] absent = refl
-is_in-take (suc n) block (other ∷ blocks) absent = grind (arith, nat_tests, common_steps, is_in-take n block blocks)
-
 -- the first n of distinct blocks are distinct
 take-distinct : (n : ℕ) (blocks : List ℕ) → AreDistinct blocks → AreDistinct (take n blocks)
 take-distinct zero blocks distinct = tt
@@ -94,7 +65,7 @@ take-distinct (suc n) (block ∷ blocks) distinct = (is_in-take n block blocks d
 -- a fetch keeps the blocks distinct
 pub touch-distinct : (ways block : ℕ) (blocks : List ℕ) → AreDistinct blocks → AreDistinct (touch ways blocks block)
 touch-distinct ways block blocks distinct =
-    take-distinct ways (block ∷ others blocks block) (is_in-others_same block blocks, others-distinct block blocks distinct)
+    take-distinct ways (block ∷ others blocks block) (fetched-distinct block blocks distinct)
 
 -- what the code of a fetch knows: where it found the block, which slot it overwrites, and the slots afterwards
 pub record IsStep (slots after : List ℕ) (len ways block place : ℕ) (found : Option ℕ) : Type 0 where

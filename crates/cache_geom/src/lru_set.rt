@@ -1,7 +1,7 @@
 // One set of a cache with least-recently-used replacement.
 ghost use Rattle.std.specs.Prelude.{◌≡◌, ℕ, ◌+◌, ◌<◌, ◌≤◌, ◌==◌, List, [], ◌∷◌, ◌++◌, length, take, drop, slice_get, position};
 ghost use Rattle.cache_spec.specs.Lru.{touch, is_in};
-ghost use Rattle.cache_geom.specs.LruSet.{AreDistinct};
+ghost use Rattle.cache_spec.specs.Distinct.{AreDistinct};
 
 use crate::Geometry;
 use std::marker::Model;

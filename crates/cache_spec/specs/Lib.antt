@@ -1,4 +1,5 @@
 pub mod Geometry
 pub mod Lru
+pub mod Distinct
 pub mod Contents
 pub mod Verdict

@@ -16,8 +16,3 @@ pub record IsAlwaysHit (g : Geometry) (Fetches : List ℕ → Type 0) : Type 0 w
 pub record IsAlwaysMiss (g : Geometry) (Fetches : List ℕ → Type 0) : Type 0 where
   pub some : (addresses : List ℕ) × Fetches addresses
   pub each : (addresses : List ℕ) → Fetches addresses → IsFalse (ends_in_hit g addresses)
-
--- some path ends in a hit, and some in a miss
-pub record IsUnknown (g : Geometry) (Fetches : List ℕ → Type 0) : Type 0 where
-  pub hits : (addresses : List ℕ) × Fetches addresses × IsTrue (ends_in_hit g addresses)
-  pub misses : (addresses : List ℕ) × Fetches addresses × IsFalse (ends_in_hit g addresses)

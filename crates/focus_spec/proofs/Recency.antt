@@ -1,41 +1,11 @@
 -- Recency lists: blocks that no list has twice, the last fetched first.
-use Rattle.std.proofs.Common.{◌≡◌, ℕ, zero, suc, ◌+◌, true, false, not, cond, ◌&&◌, ◌==◌, if◌then◌else◌, IsFalse, List, [], ◌∷◌, length, take, filter, Option, Some, None, option_map, refl, sym, ap, subst, ◌∙◌, take-take, le_refl, inl, inr, arith, eq-eqb, lt-ltb}
+use Rattle.std.proofs.Common.{◌≡◌, ℕ, zero, suc, ◌+◌, true, false, cond, ◌==◌, if◌then◌else◌, IsFalse, List, [], ◌∷◌, length, take, Option, Some, None, option_map, refl, sym, ap, subst, ◌∙◌, take-take, le_refl, inl, inr, arith, eq-eqb, lt-ltb}
 use Rattle.std.proofs.lemmas.Grind.{common_steps}
 use Rattle.std.proofs.lemmas.Bool.{cases_eq, ne_eqb}
 use Rattle.std.proofs.lemmas.Bool.Decides.{nat_tests}
 use Rattle.cache_spec.specs.Lru.{is_in}
+use Rattle.cache_spec.specs.Distinct.{AreDistinct, others, others-absent, is_in-take}
 use Rattle.focus_spec.specs.Younger.{is_small}
-
--- no block stands twice
-abbrev pub AreDistinct : List ℕ → Type 0
-AreDistinct [] = Unit {0}
-AreDistinct (block ∷ blocks) = IsFalse (is_in blocks block) × AreDistinct blocks
-
--- the blocks other than this one
-abbrev pub others : List ℕ → ℕ → List ℕ
-others blocks block = filter (λ other. not (other == block)) blocks
-
--- where the block is not there, all blocks are others
-others-absent : (block : ℕ) (blocks : List ℕ) → IsFalse (is_in blocks block) → others blocks block ≡ blocks
-others-absent block [] absent = refl
-others-absent block (other ∷ blocks) absent = grind (arith, nat_tests, common_steps, others-absent block blocks)
-
--- which blocks are others
-pub is_in-others : (block kept : ℕ) (blocks : List ℕ)
-    → is_in (others blocks block) kept ≡ (not (kept == block) && is_in blocks kept)
-is_in-others block kept [] = grind (arith, nat_tests)
-is_in-others block kept (other ∷ blocks) = grind (arith, nat_tests, common_steps, is_in-others block kept blocks)
-
--- the others of distinct blocks are distinct
-others-distinct : (block : ℕ) (blocks : List ℕ) → AreDistinct blocks → AreDistinct (others blocks block)
-others-distinct block [] distinct = tt
-others-distinct block (other ∷ blocks) distinct =
-    grind (arith, nat_tests, common_steps, is_in-others block other blocks, others-distinct block blocks distinct.1)
-
--- distinct blocks are distinct after a fetch
-pub fetched-distinct : (block : ℕ) (blocks : List ℕ) → AreDistinct blocks → AreDistinct (block ∷ others blocks block)
-fetched-distinct block blocks distinct =
-    (grind (arith, nat_tests, is_in-others block block blocks), others-distinct block blocks distinct)
 
 -- how many others there are
 pub length-others : (block : ℕ) (blocks : List ℕ) → AreDistinct blocks
@@ -43,12 +13,6 @@ pub length-others : (block : ℕ) (blocks : List ℕ) → AreDistinct blocks
 length-others block [] distinct = refl
 length-others block (other ∷ blocks) distinct =
     grind (arith, nat_tests, common_steps, others-absent block blocks, length-others block blocks distinct.1)
-
--- a block that is not there is not among the first n
-is_in-take : (n block : ℕ) (blocks : List ℕ) → IsFalse (is_in blocks block) → IsFalse (is_in (take n blocks) block)
-is_in-take zero block blocks absent = refl
-is_in-take (suc n) block [] absent = refl
-is_in-take (suc n) block (other ∷ blocks) absent = grind (arith, nat_tests, common_steps, is_in-take n block blocks)
 
 -- the others behind the block itself
 others-at : (block other : ℕ) (blocks : List ℕ) → (other == block) ≡ true
