@@ -1,3 +1,4 @@
 mod Recency
 mod Stack
 mod Renamed
+mod Since

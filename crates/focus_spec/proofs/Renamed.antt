@@ -107,11 +107,11 @@ map-option blocks x None up inside places = refl
 map-option blocks x (Some set) up inside places = ap (λ s. Some s) (map-with_number blocks x set up inside places)
 
 -- after its own fetch the younger set of a block is empty
-after-own : (block other : ℕ) (set : Option (List ℕ)) → other ≡ block → after block (Some other) set ≡ Some []
+pub after-own : (block other : ℕ) (set : Option (List ℕ)) → other ≡ block → after block (Some other) set ≡ Some []
 after-own block other set same = simp (eq-eqb other block same)
 
 -- after another block's it has that block
-after-other : (block other : ℕ) (set : Option (List ℕ)) → (other ≡ block → ⊥)
+pub after-other : (block other : ℕ) (set : Option (List ℕ)) → (other ≡ block → ⊥)
     → after block (Some other) set ≡ option_map (with_number other) set
 after-other block other set apart = simp (ne_eqb other block apart)
 

@@ -1,5 +1,5 @@
 // What holds of younger sets.
-ghost use Rattle.std.specs.Prelude.{◌≡◌, ℕ, ◌<◌, List, ◌∷◌, length, map, Option, Some, option_map};
+ghost use Rattle.std.specs.Prelude.{◌≡◌, ℕ, ◌<◌, ◌↔◌, List, ◌∷◌, ◌++◌, length, map, Option, Some, None, option_map};
 ghost use Rattle.std.specs.List.{Contains};
 ghost use Rattle.std.specs.List.Sorted.{IsStrictlyIncreasing};
 ghost use Rattle.cache_spec.specs.Geometry.{Geometry, block_of, set_of};
@@ -7,8 +7,9 @@ ghost use Rattle.cache_spec.specs.Contents.{ends_in_hit};
 ghost use Rattle.focus_spec.specs.Younger.{younger, is_small, block_in, named};
 
 /// What holds of younger sets: a list of fetches ends in a hit exactly where the younger set of its last block has fewer
-/// blocks than a set has ways; a younger set rises; and it names the same blocks, whether they are told by themselves or
-/// by their places in a list that rises.
+/// blocks than a set has ways; a younger set rises; it names the same blocks, whether they are told by themselves or by
+/// their places in a list that rises; it has the blocks that were fetched since its own block's last fetch; and there is
+/// none exactly where its block was never fetched.
 pub fn younger_laws()
     ensures hits { (g : Geometry) (address : ℕ) (earlier : List ℕ) → ends_in_hit g (address ∷ earlier)
         ≡ is_small g.ways (younger (block_of g address) (map (block_in g (set_of g (block_of g address))) earlier)) }
@@ -18,4 +19,9 @@ pub fn younger_laws()
         → block < length blocks → ((local : ℕ) → Contains fetches (Some local) → local < length blocks)
         → younger (named blocks block) (map (option_map (named blocks)) fetches)
         ≡ option_map (map (named blocks)) (younger block fetches) }
+    ensures since { (block : ℕ) (newer older : List (Option ℕ)) (set : List ℕ) (other : ℕ) →
+        (Contains newer (Some block) → ⊥) → younger block (newer ++ Some block ∷ older) ≡ Some set →
+        Contains set other ↔ Contains newer (Some other) }
+    ensures none { (block : ℕ) (fetches : List (Option ℕ)) →
+        (younger block fetches ≡ None) ↔ (Contains fetches (Some block) → ⊥) }
 {}

@@ -1,5 +1,6 @@
 use Rattle.cache_spec.specs.Geometry.{block_of, set_of}
 use Rattle.focus_spec.proofs.Renamed.{younger-named}
+use Rattle.focus_spec.proofs.Since.{younger-since, younger-none}
 use Rattle.focus_spec.proofs.Stack.{is_in-contents, rising-younger}
 use Rattle.focus_spec.proofs.laws.younger_laws.Goals as goal
 
@@ -12,3 +13,9 @@ returns-clause-rising c = rising-younger
 
 pub returns-clause-renamed : goal.returns-clause-renamed
 returns-clause-renamed c = younger-named
+
+pub returns-clause-since : goal.returns-clause-since
+returns-clause-since c = younger-since
+
+pub returns-clause-none : goal.returns-clause-none
+returns-clause-none c = younger-none

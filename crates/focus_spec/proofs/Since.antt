@@ -1,0 +1,96 @@
+-- Which blocks a younger set has: those that were fetched since its own block's last fetch.
+use Rattle.std.proofs.Common.{◌≡◌, ℕ, ◌↔◌, List, [], ◌∷◌, ◌++◌, Contains, Option, Some, None, option_map, refl, sym, ap, subst, ◌∙◌, inl, inr, arith}
+use Rattle.std.proofs.lemmas.Bool.{cases_eq}
+use Rattle.std.proofs.lemmas.List.Elements.{Contains-append_right}
+use Rattle.std.proofs.lemmas.Option.{none-some}
+use Rattle.set_list.specs.Rising.{Contains-front}
+use Rattle.focus_spec.specs.Younger.{with_number, younger}
+use Rattle.focus_spec.specs.WithNumber.{Contains-with_number}
+use Rattle.focus_spec.proofs.Renamed.{after-own, after-other}
+
+-- two values are the same where each is something
+same_some : {A : Type 0} (a b : A) → Some a ≡ Some b → a ≡ b
+same_some a b is = cc (is)
+
+-- what is mapped to something
+mapped : (f : List ℕ → List ℕ) (o : Option (List ℕ)) (set : List ℕ) → option_map f o ≡ Some set
+    → (inner : List ℕ) × (o ≡ Some inner) × (f inner ≡ set)
+mapped f None set is = absurd (none-some set is)
+mapped f (Some inner) set is = (inner, refl, same_some (f inner) set is)
+
+-- what is mapped to nothing
+mapped_none : (f : List ℕ → List ℕ) (o : Option (List ℕ)) → option_map f o ≡ None → o ≡ None
+mapped_none f None is = refl
+mapped_none f (Some inner) is = absurd (none-some (f inner) (sym is))
+
+-- the set has the blocks of these fetches
+abbrev HasBlocks : List (Option ℕ) → ℕ → List ℕ → Type 0
+HasBlocks newer other set = Contains set other ↔ Contains newer (Some other)
+
+-- the same with one more fetch
+has-more : (x : ℕ) (newer : List (Option ℕ)) (other : ℕ) (set : List ℕ) → HasBlocks newer other set
+    → HasBlocks (Some x ∷ newer) other (with_number x set)
+has-more x newer other set has = (
+  λ there. elim ((Contains-with_number x set other).0 there) [
+    | inl old ↦ (Contains-front (Some x) newer (Some other)).1 (inl (has.0 old))
+    | inr same ↦ (Contains-front (Some x) newer (Some other)).1 (inr (ap (λ n. Some n) same))
+  ],
+  λ there. elim ((Contains-front (Some x) newer (Some other)).0 there) [
+    | inl later ↦ (Contains-with_number x set other).1 (inl (has.1 later))
+    | inr same ↦ (Contains-with_number x set other).1 (inr (same_some other x same))
+  ],
+)
+
+-- a younger set has the blocks that were fetched since its block's last fetch
+pub younger-since : (block : ℕ) (newer older : List (Option ℕ)) (set : List ℕ) (other : ℕ)
+    → (Contains newer (Some block) → ⊥) → younger block (newer ++ Some block ∷ older) ≡ Some set
+    → Contains set other ↔ Contains newer (Some other)
+younger-since block [] older set other apart is =
+    let none = same_some [] set (sym (after-own block block (younger block older) refl) ∙ is) in
+    subst (HasBlocks [] other) none (λ there. absurd (omega (arith, there.1)), λ there. absurd (omega (arith, there.1)))
+younger-since block (None ∷ newer) older set other apart is =
+    let later = λ (b : ℕ) (there : Contains newer (Some b)). Contains-append_right (None ∷ []) newer (Some b) there in
+    let rest = younger-since block newer older set other (λ there. apart (later block there)) is in (
+      λ there. later other (rest.0 there),
+      λ there. elim ((Contains-front None newer (Some other)).0 there) [
+        | inl behind ↦ rest.1 behind
+        | inr same ↦ absurd (none-some other (sym same))
+      ],
+    )
+younger-since block (Some x ∷ newer) older set other apart is =
+    let differ : x ≡ block → ⊥ = λ same. apart (0, omega arith, ap (λ n. Some n) same) in
+    let inner = mapped (with_number x) (younger block (newer ++ Some block ∷ older)) set
+    (sym (after-other block x (younger block (newer ++ Some block ∷ older)) differ) ∙ is) in
+    let rest = younger-since block newer older inner.0 other
+    (λ there. apart (Contains-append_right (Some x ∷ []) newer (Some block) there)) inner.1 in
+    subst (HasBlocks (Some x ∷ newer) other) inner.2 (has-more x newer other inner.0 rest)
+
+-- there is none exactly where its block was never fetched
+pub younger-none : (block : ℕ) (fetches : List (Option ℕ))
+    → (younger block fetches ≡ None) ↔ (Contains fetches (Some block) → ⊥)
+younger-none block [] = (λ _ there. absurd (omega (arith, there.1)), λ _. refl)
+younger-none block (None ∷ earlier) =
+    let rest = younger-none block earlier in (
+      λ is there. elim ((Contains-front None earlier (Some block)).0 there) [
+        | inl behind ↦ rest.0 is behind
+        | inr same ↦ absurd (none-some block (sym same))
+      ],
+      λ absent. rest.1 (λ there. absent (Contains-append_right (None ∷ []) earlier (Some block) there)),
+    )
+younger-none block (Some x ∷ earlier) =
+    let rest = younger-none block earlier in
+    let known = younger block earlier in
+    elim (cases_eq x block) [
+      | inl same ↦ (
+        λ is there. absurd (none-some [] (sym is ∙ after-own block x known same)),
+        λ absent. absurd (absent (0, omega arith, ap (λ n. Some n) same)),
+      )
+      | inr differ ↦ (
+        λ is there. elim ((Contains-front (Some x) earlier (Some block)).0 there) [
+          | inl behind ↦ rest.0 (mapped_none (with_number x) known (sym (after-other block x known differ) ∙ is)) behind
+          | inr same ↦ differ (sym (same_some block x same))
+        ],
+        λ absent. after-other block x known differ
+            ∙ ap (option_map (with_number x)) (rest.1 (λ there. absent (Contains-append_right (Some x ∷ []) earlier (Some block) there))),
+      )
+    ]
