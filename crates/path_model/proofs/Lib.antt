@@ -6,3 +6,4 @@ pub mod Moves
 pub mod Kept
 pub mod Choices
 pub mod Walked
+pub mod OnePath

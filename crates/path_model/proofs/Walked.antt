@@ -57,7 +57,7 @@ last_of (e ∷ d ∷ later) some =
     (e ∷ rest.0, rest.1, ap (λ xs. e ∷ xs) rest.2)
 
 -- a move with this letter is the one of the code
-move-only : (nodes : List Node) (last d : ℕ) (letter rest : List ℕ) → IsGraph nodes → IsSuccessor (graph_step nodes) last d
+pub move-only : (nodes : List Node) (last d : ℕ) (letter rest : List ℕ) → IsGraph nodes → IsSuccessor (graph_step nodes) last d
     → IsLetter (graph_step nodes last) d letter → next_to (slice_get nodes last) (slice_get (letter ++ rest) 0) ≡ Some (d, length letter)
 move-only nodes last d letter rest graph leads is =
     let named = node-from_successor nodes last d leads in

@@ -1,6 +1,7 @@
 // The path that some choices name.
 ghost use Rattle.std.specs.Prelude.{◌≡◌, ℕ, ◌≤◌, List, [], ◌∷◌, reverse, slice_get, IfOk, IfSome, IfNone};
-ghost use Rattle.path_model.specs.Graph.{IsGraph};
+ghost use Rattle.transition_spec.specs.Path.{HasChoices};
+ghost use Rattle.path_model.specs.Graph.{IsGraph, graph_step};
 ghost use Rattle.path_model.specs.Follow.{IsFollowed, next_to};
 
 use crate::{Graph, Node};
@@ -31,6 +32,15 @@ pub fn follow(
     path.push(0)?;
     walk(graph.nodes(), choices, steps as usize, path)
 }
+
+/// What holds of steps and choices: they name at most one path, and a path has one list of choices. So `follow` leads back
+/// to a path by its number of members and what `choices_of` gives of it.
+pub fn choice_laws()
+    ensures one_path { (nodes : List Node) (steps : ℕ) (choices one two : List ℕ) → IsGraph nodes →
+        IsFollowed nodes steps choices one → IsFollowed nodes steps choices two → one ≡ two }
+    ensures one_list { (nodes : List Node) (path one two : List ℕ) → IsGraph nodes →
+        HasChoices (graph_step nodes) path one → HasChoices (graph_step nodes) path two → one ≡ two }
+{}
 
 // Goes on from node 0 until the path has its steps.
 fn walk(

@@ -11,6 +11,6 @@ mod graph;
 mod tests;
 mod walk;
 
-pub use choose::follow;
+pub use choose::{choice_laws, follow};
 pub use graph::{Graph, Node, graph_laws};
 pub use walk::{choices_of, ends_in_hit};

@@ -1,4 +1,4 @@
-use crate::{Graph, Node, choices_of, ends_in_hit, follow, graph_laws};
+use crate::{Graph, Node, choice_laws, choices_of, ends_in_hit, follow, graph_laws};
 use cache_geom::Geometry;
 use std::alloc::{AllocError, Global};
 use std::test::Fail;
@@ -162,5 +162,6 @@ fn the_choices_of_a_followed_path_are_those_that_it_was_followed_by(
     let geometry = Geometry::new(8, 16, 3).expect(&rt, "in range");
     assert!(rt; ends_in_hit(&graph, &geometry, &hit));
     assert!(rt; !ends_in_hit(&graph, &geometry, &miss));
+    choice_laws();
     Ok(())
 }
