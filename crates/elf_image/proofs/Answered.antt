@@ -1,7 +1,7 @@
 -- The answer of the first group of tests that fails is that of the file.
-use Rattle.std.proofs.Common.{◌≡◌, ℕ, Option, Some, None, Ok, Err, List, ◌++◌, ap, ◌∙◌}
+use Rattle.std.proofs.Common.{◌≡◌, ℕ, Option, Some, None, Result, Ok, Err, IfErr, List, ◌++◌, sym, ap, ◌∙◌, subst}
 use Rattle.elf_spec.specs.declared.fault.ElfFault.{ElfFault}
-use Rattle.elf_spec.specs.Image.{image_of, answer_of, kept_of, first_fault}
+use Rattle.elf_spec.specs.Image.{Image, image_of, answer_of, kept_of, first_fault}
 use Rattle.elf_image.specs.Tests.{identity_tests, machine_tests, table_tests, segment_tests}
 use Rattle.elf_image.proofs.Faults.{passed, failed}
 
@@ -51,3 +51,13 @@ fault_of_segments file fault identity machine table here =
 pub kept : (file : List ℕ) → first_fault (identity_tests file) ≡ None → first_fault (machine_tests file) ≡ None
     → first_fault (table_tests file) ≡ None → first_fault (segment_tests file) ≡ None → image_of file ≡ Ok (kept_of file)
 kept file identity machine table segments = last_group file identity machine table ∙ ap (answer_of file) segments
+
+-- where the answer is a fault, a result with that fault is right
+pub only_fault : {T : Type 0} (file : List ℕ) (fault : ElfFault) (result : Result T ElfFault) → result ≡ Err fault → image_of file ≡ Err fault
+    → IfErr (image_of file) (λ other. result ≡ Err other)
+only_fault file fault result same is =
+    let P : Result Image ElfFault → Type 0 = λ answer. IfErr answer (λ other. result ≡ Err other) in subst P (sym is) same
+
+-- and where it is an image, there is none
+pub no_fault : (file : List ℕ) (P : ElfFault → Type 0) (image : Image) → image_of file ≡ Ok image → IfErr (image_of file) P
+no_fault file P image is = let Q : Result Image ElfFault → Type 0 = λ answer. IfErr answer P in subst Q (sym is) tt

@@ -1,7 +1,8 @@
 -- Segments that have no address in common, put in order, rise.
-use Rattle.std.proofs.Common.{◌≡◌, ℕ, ◌<◌, ◌≤◌, zero, suc, ◌⊎◌, inl, inr, List, [], ◌∷◌, length, get_or, All, AllPairs, refl, ap, ◌∙◌, arith}
+use Rattle.std.proofs.Common.{◌≡◌, ℕ, ◌<◌, ◌≤◌, zero, suc, ◌⊎◌, inl, inr, List, [], ◌∷◌, length, get_or, All, AllPairs, IsPermutation, refl, ap, ◌∙◌, arith}
 use Rattle.std.specs.Prelude.{nat_le}
 use Rattle.std.proofs.lemmas.Bool.{cond_both, leb-true, leb-false}
+use Rattle.std.proofs.lemmas.List.Sorted.{IsPermutation-refl, IsPermutation-cons, IsPermutation-middle, IsPermutation-trans}
 use Rattle.std.proofs.lemmas.List.Elements.{All-nil, All-cons, All-head, All-tail, All-weaker}
 use Rattle.elf_spec.specs.declared.segment.Segment.{Segment}
 use Rattle.elf_spec.specs.Image.{placed, in_order}
@@ -97,3 +98,19 @@ length-placed s (next ∷ later) =
 pub length-in_order : (segments : List Segment) → length (in_order segments) ≡ length segments
 length-in_order [] = refl
 length-in_order (s ∷ later) = length-placed s (in_order later) ∙ ap suc (length-in_order later)
+
+-- only the order changes
+placed_moves : (s : Segment) (others : List Segment) → IsPermutation (s ∷ others) (placed s others)
+placed_moves s [] = IsPermutation-refl (s ∷ [])
+placed_moves s (next ∷ later) =
+    cond_both (nat_le s.at next.at) (s ∷ next ∷ later) (next ∷ placed s later) (IsPermutation (s ∷ next ∷ later))
+    (λ e. IsPermutation-refl (s ∷ next ∷ later))
+    (λ e.
+    IsPermutation-trans (s ∷ next ∷ later) (next ∷ s ∷ later) (next ∷ placed s later) (IsPermutation-middle (s ∷ []) next later)
+    (IsPermutation-cons next (s ∷ later) (placed s later) (placed_moves s later)))
+
+pub in_order_moves : (segments : List Segment) → IsPermutation segments (in_order segments)
+in_order_moves [] = IsPermutation-refl []
+in_order_moves (s ∷ later) =
+    IsPermutation-trans (s ∷ later) (s ∷ in_order later) (in_order (s ∷ later)) (IsPermutation-cons s later (in_order later) (in_order_moves later))
+    (placed_moves s (in_order later))
