@@ -5,6 +5,7 @@ ghost use Rattle.riscv_spec.specs.Field.{rd};
 ghost use Rattle.riscv_spec.specs.Table.{kind_of, link_named};
 ghost use Rattle.flow_spec.specs.Transfer.{plain, branch, jump, call, pair_transfer, transfer_by, is_good_target};
 ghost use Rattle.flow_spec.specs.Next.{next_at, next_by, return_to};
+ghost use Rattle.flow_graph.specs.Refusal.{IsRefusalAt};
 
 use crate::places::{is_target, is_text, next_word, pair_at, pair_target, plus};
 use elf_image::Image;
@@ -16,7 +17,8 @@ use rv_decode::{Kind, decode, link_of};
 #[tactic(auto, unfolding(flow_spec::specs::Next::next_at))]
 pub fn next_of(image: &Image, at: u32, top: Option<Frame>) -> Result<Next, FlowFault>
     requires { IsText image.now at }
-    ensures { result ≡ next_at image.now at top }
+    ensures next { result ≡ next_at image.now at top }
+    ensures refusals { IfErr result (IsRefusalAt image.now at) }
 {
     let word = image.word(at).unwrap();
     match pair_at(image, at) {
