@@ -2,13 +2,14 @@
 use Rattle.std.proofs.Common.{◌≡◌, ℕ, ◌<◌, ◌≤◌, List, [], ◌∷◌, ◌++◌, length, map, take, drop, Option, Some, None, refl, sym, ap, ◌∙◌, subst, arith, append-nil, IsTrue, Bool, true, false, ◌&&◌}
 use Rattle.std.specs.Prelude.{slice_get, Contains, Ok, IsSome, IfSome, IfNone, flat_map}
 use Rattle.std.specs.Result.{IsOkAnd}
-use Rattle.std.specs.List.{AllZip, list_all}
+use Rattle.std.specs.List.{AllByRecursion, AllZip, list_all}
 use Rattle.std.specs.Option.{option_to_list}
 use Rattle.std.specs.BTreeMap.{BTreeMap}
 use Rattle.std.proofs.lemmas.Bool.Decides.{nat_tests}
 use Rattle.std.proofs.lemmas.List.{map-append, length-map, get_or-map, take_all, drop_all}
 use Rattle.std.proofs.lemmas.Option.{slice_get_within, get_or_from_slice_get}
 use Rattle.elf_spec.specs.Image.{Image}
+use Rattle.elf_spec.specs.Word.{IsText}
 use Rattle.transition_spec.specs.Path.{IsSuccessor}
 use Rattle.transition_spec.specs.Layer.{all_of}
 use Rattle.flow_spec.specs.Transfer.{is_good_target}
@@ -26,7 +27,7 @@ use Rattle.call_expand.specs.Expansion.{numbered, IsNodeOf, IsGraphOf}
 use Rattle.call_expand.specs.Place.{configuration_at, configurations_at, IsPlace, places_of, IsEdge, AreExpanded}
 use Rattle.call_expand.specs.Numbers.{AreNumbers, HasNumber, IsNodeFor, AreNodesFor, AreAmong}
 use Rattle.call_expand.specs.Search.{IsWalked, IsAt}
-use Rattle.call_expand.proofs.Zipped.{all-weaker, zip-length, zip-at}
+use Rattle.call_expand.proofs.Zipped.{all-weaker, all-map, zip-length, zip-at}
 use Rattle.call_expand.proofs.Ordered.{place, same_place}
 use Rattle.call_expand.proofs.New.{each-from_all, all-from_each}
 use Rattle.call_expand.proofs.Texts.{good-text}
@@ -180,6 +181,15 @@ module _ (image : Image) (entry : ℕ) (cells : List StackCell) (places : List P
       → (layers : List (List Configuration)) × IsAccepted (successors image entry) image entry layers × (configurations ≡ all_of layers)
   is_accepted configurations same =
       (walked.earlier, accepted (successors image entry) image entry all_configurations [] walked refl, same ∙ sym walked.all)
+
+  -- its configurations are in the text
+  pub are_texts : (configurations : List Configuration) → configurations ≡ configurations_at cells places
+      → AllByRecursion (λ c. IsText image c.at) configurations
+  are_texts configurations same =
+      let P : List Configuration → Type 0 = λ cs. AllByRecursion (λ c. IsText image c.at) cs in
+      subst P (sym same)
+      (all-map (λ (c : Configuration). IsText image c.at) (configuration_at cells) places
+      (all-weaker (IsPlace image cells) (λ p. IsText image p.at) (λ p is. is.text) places at.are_places))
 
   -- there are edges for each place
   pub edges_long : length edges ≡ length places

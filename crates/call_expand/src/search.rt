@@ -1,6 +1,8 @@
-ghost use Rattle.std.specs.Prelude.{◌≡◌, true, ◌⊎◌, ◌+◌, ◌*◌, ◌^◌, ◌<◌, ◌≤◌, List, ◌++◌, length, drop, flat_map, IfOk, IfErr, OnOk};
+ghost use Rattle.std.specs.Prelude.{◌≡◌, true, ◌⊎◌, ◌+◌, ◌*◌, ◌^◌, ◌<◌, ◌≤◌, List, ◌++◌, length, drop, flat_map, IsFalse, Err, IfOk, IfErr, OnOk};
 ghost use Rattle.std.specs.Option.{option_to_list};
+ghost use Rattle.std.specs.List.{AllByRecursion};
 ghost use Rattle.std.specs.List.Sorted.{IsPermutation, IsSorted};
+ghost use Rattle.elf_spec.specs.Word.{IsText};
 ghost use Rattle.transition_spec.specs.Layer.{all_of};
 ghost use Rattle.flow_spec.specs.Configuration.{Configuration};
 ghost use Rattle.flow_spec.specs.Successors.{successors};
@@ -46,6 +48,8 @@ pub fn expand(alloc: Global, image: &Image, entry: u32) -> Result<Expanded, Flow
         × (expanded.configurations ≡ all_of layers)) }
     ensures graph { IfOk result (λ expanded.
         IsGraphOf (successors image.now entry) entry expanded.configurations expanded.nodes) }
+    ensures text { IfOk result (λ expanded. AllByRecursion (λ c. IsText image.now c.at) expanded.configurations) }
+    ensures bad_entry { IsFalse (is_good_target image.now entry) → result ≡ Err (FlowFault.BadEntry entry) }
     ensures refused { IfErr result (λ fault. (fault ≡ FlowFault.OutOfMemory)
         ⊎ IsRefused (successors image.now entry) image.now entry fault) }
 {
@@ -192,6 +196,7 @@ fn finish(alloc: Global, image: &Image, entry: u32, search: Search) -> Result<Ex
         × (expanded.configurations ≡ all_of layers)) }
     ensures graph { IfOk result (λ expanded.
         IsGraphOf (successors image.now entry) entry expanded.configurations expanded.nodes) }
+    ensures text { IfOk result (λ expanded. AllByRecursion (λ c. IsText image.now c.at) expanded.configurations) }
 {
     let Search {
         stacks,

@@ -1,7 +1,7 @@
 use Rattle.std.proofs.Common.{◌∙◌, ap, subst, List, length}
 use Rattle.call_expand.specs.declared.place.Edges.{Edges}
 use Rattle.call_expand.specs.Numbers.{AreNodesFor}
-use Rattle.call_expand.proofs.Finished.{some-from, same-at, edges_long, edges_among, is_accepted, is_graph, is_graph_of, are_expanded}
+use Rattle.call_expand.proofs.Finished.{some-from, same-at, edges_long, edges_among, is_accepted, is_graph, is_graph_of, are_expanded, are_texts}
 use Rattle.call_expand.proofs.search.finish.Goals as goal
 
 pub nodes_of-requires-clause-each : goal.nodes_of-requires-clause-each
@@ -45,3 +45,8 @@ returns-clause-graph c =
     is_graph_of c.args.image.now c.args.entry c.args.search.stacks c.args.search.known.places.items c.args.search.known.numbers
     c.args.search.edges.items c.requires c.in_ok-nodes.nodes.items (subst P c.deref.ensures.value c.in_ok-nodes.ensures)
     c.new-2.result.configurations c.new-2.result.nodes c.new-2.ensures.configurations (c.new-2.ensures.nodes ∙ same)
+
+pub returns-clause-text : goal.returns-clause-text
+returns-clause-text c =
+    are_texts c.args.image.now c.args.entry c.args.search.stacks c.args.search.known.places.items c.args.search.known.numbers
+    c.args.search.edges.items c.requires c.new-2.result.configurations c.new-2.ensures.configurations
