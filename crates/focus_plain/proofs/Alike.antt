@@ -10,11 +10,12 @@ use Rattle.set_list.specs.SetList.{IsSubset}
 use Rattle.set_list.specs.Rising.{Contains-front}
 use Rattle.focus_spec.specs.Younger.{is_small, fetch_at}
 use Rattle.focus_spec.specs.Focus.{younger_after, Leaves, MayBeSmall, MayBeLarge, IsLeastYounger, AreLeast, AreMost}
+use Rattle.focus_spec.specs.Fate.{AllEnd, NamesEnd}
 use Rattle.focus_spec.specs.RisingSets.{rising-tail, above_first, not_below_first, behind_first, same_from_subsets}
 use Rattle.set_view.specs.View.{View}
 use Rattle.focus_plain.specs.declared.settling.Fate.{Fate}
 use Rattle.focus_plain.specs.declared.settling.PlainPlace.{PlainPlace}
-use Rattle.focus_plain.specs.Judged.{AlwaysEndsIn, IsWayTo, IsEnd, AreFetchers}
+use Rattle.focus_plain.specs.Judged.{IsEnd, AreFetchers}
 use Rattle.focus_plain.specs.Settled.{IsFate, IsPlainPlace, IsAlike}
 use Rattle.focus_plain.proofs.Order.{IsRising, younger-rising, length-within}
 use Rattle.focus_plain.proofs.Fates.{HitsWhereSmall}
@@ -63,22 +64,18 @@ no_least view block n none (suc bound) set below left small =
 
 module _ (view : View) (block : ℕ) (law : HitsWhereSmall view block) (n : ℕ) (fetches : fetch_at view.fetches n ≡ Some block) where
   -- a path to a hit leaves a small younger set
-  small_from_hit : (way : Way) → IsWayTo view n true way → MayBeSmall view.nodes view.fetches view.geometry.ways block n
+  small_from_hit : (way : Way) → NamesEnd view.nodes view.geometry n way true → MayBeSmall view.nodes view.fetches view.geometry.ways block n
   small_from_hit way is =
-      let earlier : List ℕ = is.0 in
-      let path = is.2.0 in
-      let set = small-set view.geometry.ways (younger_after view.fetches block earlier) (sym (law n earlier path fetches) ∙ is.2.1) in
-      (set.0, (earlier, path, set.1), set.2)
+      let set = small-set view.geometry.ways (younger_after view.fetches block is.earlier) (sym (law n is.earlier is.is_path fetches) ∙ is.fate) in
+      (set.0, (is.earlier, is.is_path, set.1), set.2)
 
   -- a path to a miss leaves a large one, or none
-  large_from_miss : (way : Way) → IsWayTo view n false way → MayBeLarge view.nodes view.fetches view.geometry.ways block n
+  large_from_miss : (way : Way) → NamesEnd view.nodes view.geometry n way false → MayBeLarge view.nodes view.fetches view.geometry.ways block n
   large_from_miss way is =
-      let earlier : List ℕ = is.0 in
-      let path = is.2.0 in
-      (younger_after view.fetches block earlier, (earlier, path, refl), sym (law n earlier path fetches) ∙ is.2.1)
+      (younger_after view.fetches block is.earlier, (is.earlier, is.is_path, refl), sym (law n is.earlier is.is_path fetches) ∙ is.fate)
 
   -- where all paths miss, no set is small
-  none_small_from_misses : AlwaysEndsIn view n false → MayBeSmall view.nodes view.fetches view.geometry.ways block n → ⊥
+  none_small_from_misses : AllEnd view.nodes view.geometry n false → MayBeSmall view.nodes view.fetches view.geometry.ways block n → ⊥
   none_small_from_misses always may =
       let left = may.1 in
       let small : is_small view.geometry.ways (younger_after view.fetches block left.0) ≡ true =
@@ -86,7 +83,7 @@ module _ (view : View) (block : ℕ) (law : HitsWhereSmall view block) (n : ℕ)
       both_ways _ (always left.0 left.1) (law n left.0 left.1 fetches ∙ small)
 
   -- where all paths hit, none is large or absent
-  none_large_from_hits : AlwaysEndsIn view n true → MayBeLarge view.nodes view.fetches view.geometry.ways block n → ⊥
+  none_large_from_hits : AllEnd view.nodes view.geometry n true → MayBeLarge view.nodes view.fetches view.geometry.ways block n → ⊥
   none_large_from_hits always may =
       let left = may.1 in
       both_ways _ (law n left.0 left.1 fetches ∙ ap (is_small view.geometry.ways) left.2 ∙ may.2) (always left.0 left.1)

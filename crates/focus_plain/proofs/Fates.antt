@@ -12,6 +12,7 @@ use Rattle.path_model.specs.Graph.{graph_step, address_of}
 use Rattle.path_trail.specs.Trail.{TrailEntry, node_at, earlier_at, IsChain}
 use Rattle.focus_spec.specs.Younger.{is_small, fetch_at}
 use Rattle.focus_spec.specs.Focus.{younger_after}
+use Rattle.focus_spec.specs.Fate.{AllEnd, NamesEnd}
 use Rattle.set_view.specs.View.{View}
 use Rattle.focus_plain.specs.declared.search.Entry.{Entry}
 use Rattle.focus_plain.specs.declared.ends.Found.{Found}
@@ -19,7 +20,6 @@ use Rattle.focus_plain.specs.Cut.{IsBelow, left_by}
 use Rattle.focus_plain.specs.Entries.{set_at, trail_of, seen_of, seen_at, latest_at, place_of, IsSpread}
 use Rattle.focus_plain.specs.Outcomes.{IsWayOf}
 use Rattle.focus_plain.specs.Ends.{AreEnds, IsFound}
-use Rattle.focus_plain.specs.Judged.{AlwaysEndsIn, IsWayTo}
 use Rattle.focus_plain.proofs.Order.{small-cut}
 use Rattle.focus_plain.proofs.Course.{paths_between}
 use Rattle.focus_plain.proofs.Links.{length-trail}
@@ -86,7 +86,7 @@ module _ (view : View) (found : Found) (is : IsFound view found) (law : HitsWher
 
   -- the way of a noted entry leads to the node, and hits as told
   pub noted_way : (small : Bool) (ends : List (Option ℕ)) (number : ℕ) (way : Way) → AreEnds entries (length entries) small ends → latest_at ends n ≡ Some number
-      → IsWayOf view.nodes (trail_of entries) number way → IsWayTo view n small way
+      → IsWayOf view.nodes (trail_of entries) number way → NamesEnd view.nodes view.geometry n way small
   noted_way small ends number way are noted way_is =
       let at = are.sound n number noted in
       let sound = is.search.course.sound number (omega (arith, at.0, length-trail entries)) in
@@ -96,10 +96,15 @@ module _ (view : View) (found : Found) (is : IsFound view found) (law : HitsWher
       ∙ ap (λ (m : ℕ). m ∷ earlier) at.1 in
       let path : IsPath (graph_step view.nodes) 0 (n ∷ earlier) = subst (λ (xs : List ℕ). IsPath (graph_step view.nodes) 0 xs) members way_is.path in
       let named : Names (graph_step view.nodes) way (n ∷ earlier) = subst (λ (xs : List ℕ). Names (graph_step view.nodes) way xs) members way_is.named in
-      (earlier, named, (path, hit-left earlier path ∙ ap is_some sound.2 ∙ seen-there number ∙ at.2))
+      record {
+        earlier = earlier;
+        is_path = path;
+        names = named;
+        fate = hit-left earlier path ∙ ap is_some sound.2 ∙ seen-there number ∙ at.2;
+      }
 
   -- where no entry with a small younger set is noted, no path hits
-  pub none_small : latest_at found.hits.items n ≡ None → AlwaysEndsIn view n false
+  pub none_small : latest_at found.hits.items n ≡ None → AllEnd view.nodes view.geometry n false
   none_small none earlier path =
       let low = (paths_between view found.block (trail_of entries) seen is.search.course (subst (λ (k : ℕ). IsSpread view found.block (trail_of entries) seen k) (sym (length-trail entries)) is.spread) earlier n path).below in
       let inside : low.0 < length entries = omega (arith, low.1, length-trail entries) in
@@ -111,7 +116,7 @@ module _ (view : View) (found : Found) (is : IsFound view found) (law : HitsWher
       ]
 
   -- where no entry without one is noted, each path hits
-  pub none_large : latest_at found.misses.items n ≡ None → AlwaysEndsIn view n true
+  pub none_large : latest_at found.misses.items n ≡ None → AllEnd view.nodes view.geometry n true
   none_large none earlier path =
       let high = (paths_between view found.block (trail_of entries) seen is.search.course (subst (λ (k : ℕ). IsSpread view found.block (trail_of entries) seen k) (sym (length-trail entries)) is.spread) earlier n path).above in
       let inside : high.0 < length entries = omega (arith, high.1, length-trail entries) in

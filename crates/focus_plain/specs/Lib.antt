@@ -1,5 +1,6 @@
 pub use Rattle.set_view.specs.View
 pub use Rattle.focus_values.specs.Exact
+pub use Rattle.focus_spec.specs.Fate
 pub use Rattle.path_trail.specs.Trail
 pub use Rattle.transition_spec.specs.Named
 pub mod Cut

@@ -28,6 +28,10 @@ is_small ways (Some set) = nat_lt (length set) ways
 abbrev pub block_in : Geometry → ℕ → ℕ → Option ℕ
 block_in g set address = if set_of g (block_of g address) == set then Some (block_of g address) else None
 
+-- the most blocks of a set that an analysis takes
+abbrev pub block_limit : ℕ
+block_limit = 1024
+
 -- the block with a local number among the blocks of a set
 abbrev pub named : List ℕ → ℕ → ℕ
 named blocks local = slice_index_or blocks local 0

@@ -3,11 +3,7 @@ use Rattle.std.specs.Prelude.{◌≡◌, ◌↔◌, ℕ, ◌<◌, ◌≤◌, Lis
 use Rattle.std.specs.List.{Contains}
 use Rattle.std.specs.List.Sorted.{IsStrictlyIncreasing}
 use Rattle.cache_spec.specs.Geometry.{Geometry}
-use Rattle.focus_spec.specs.Younger.{block_in}
-
--- the most blocks of a set that an analysis of it takes
-abbrev pub block_limit : ℕ
-block_limit = 1024
+use Rattle.focus_spec.specs.Younger.{block_in, block_limit}
 
 -- one of the addresses lies in this block of the set
 abbrev pub LieIn : List ℕ → Geometry → ℕ → ℕ → Type 0

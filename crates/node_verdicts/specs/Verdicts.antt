@@ -4,10 +4,10 @@ use Rattle.cache_spec.specs.Geometry.{Geometry, block_of, set_of}
 use Rattle.path_model.specs.declared.graph.Node.{Node}
 use Rattle.path_model.specs.Graph.{address_of}
 use Rattle.report_spec.specs.declared.line.Verdict.{Verdict}
-use Rattle.focus_spec.specs.Younger.{fetch_at}
+use Rattle.focus_spec.specs.Younger.{block_limit, fetch_at}
 use Rattle.set_view.specs.View.{View}
 use Rattle.node_spec.specs.Verdict.{IsRightAt}
-use Rattle.node_spec.specs.Blocks.{HaveMany, HaveBlocks, block_limit}
+use Rattle.node_spec.specs.Blocks.{HaveMany, HaveBlocks}
 use Rattle.report_spec.specs.declared.line.Verdict.TheVariants.{AlwaysHit, AlwaysMiss, Unknown}
 use Rattle.set_view.specs.declared.fetched.ViewFault.{ViewFault}
 use Rattle.set_view.specs.declared.fetched.ViewFault.TheVariants as view_faults

@@ -19,7 +19,8 @@ use Rattle.report_spec.specs.declared.line.Verdict.{Verdict}
 use Rattle.report_spec.specs.declared.line.Verdict.TheVariants.{AlwaysHit, AlwaysMiss, Unknown}
 use Rattle.call_expand.specs.Expansion.{IsGraphOf, numbered}
 use Rattle.call_expand.proofs.Paths.{path_to, path_from, choices_to, path_addresses, node_at, member_inside, element}
-use Rattle.node_spec.specs.Verdict.{path_hits, AllEnd, NamesEnd, IsNodeVerdict, IsRightAt}
+use Rattle.focus_spec.specs.Fate.{path_hits, AllEnd, NamesEnd}
+use Rattle.node_spec.specs.Verdict.{IsNodeVerdict, IsRightAt}
 use Rattle.node_spec.specs.Plan.{IsNodeAt, IsHitWay, IsMissWay, IsMerged}
 
 module _ (image : Image) (entry : ℕ) (g : Geometry) (configurations : List Configuration) (nodes : List Node)

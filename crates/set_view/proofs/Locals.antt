@@ -11,8 +11,8 @@ use Rattle.std.proofs.lemmas.Option.{none-some}
 use Rattle.cache_spec.specs.Geometry.{Geometry}
 use Rattle.path_model.specs.declared.graph.Node.{Node}
 use Rattle.path_model.specs.Graph.{IsGraph, address_of}
-use Rattle.focus_spec.specs.Younger.{block_in, named, fetch_at}
-use Rattle.set_view.specs.View.{AreFetched, IsView, block_limit}
+use Rattle.focus_spec.specs.Younger.{block_in, block_limit, named, fetch_at}
+use Rattle.set_view.specs.View.{AreFetched, IsView}
 use Rattle.set_view.specs.Places.{place_of, local_at}
 use Rattle.set_view.proofs.Rising.{place_of-found}
 

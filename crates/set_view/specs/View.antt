@@ -5,7 +5,7 @@ use Rattle.std.specs.List.Sorted.{IsStrictlyIncreasing}
 use Rattle.cache_spec.specs.Geometry.{Geometry}
 use Rattle.path_model.specs.declared.graph.Node.{Node}
 use Rattle.path_model.specs.Graph.{IsGraph, address_of}
-use Rattle.focus_spec.specs.Younger.{block_in, named, fetch_at}
+use Rattle.focus_spec.specs.Younger.{block_in, block_limit, named, fetch_at}
 use Rattle.set_view.specs.declared.fetched.ViewFault.{ViewFault}
 use Rattle.set_view.specs.declared.fetched.ViewFault.TheVariants.{TooManyBlocks, OutOfMemory}
 
@@ -17,10 +17,6 @@ pub record View : Type 0 where
   pub set : ℕ
   pub blocks : List ℕ
   pub fetches : List (Option ℕ)
-
--- the most blocks of a set that an analysis takes
-abbrev pub block_limit : ℕ
-block_limit = 1024
 
 -- some node fetches this block of the set
 abbrev pub IsFetched : List Node → Geometry → ℕ → ℕ → Type 0
