@@ -62,6 +62,7 @@ impl Expanded {
     pub fn graph(&self) -> &Graph
         ensures same { result.now ≡ self.now.nodes }
         ensures graph { IsGraph self.now.nodes }
+        ensures one_each { length self.now.configurations ≡ length self.now.nodes }
     {
         &self.graph
     }

@@ -1,9 +1,8 @@
 -- A report's text, line after line.
 use Rattle.std.proofs.Common.{◌≡◌, ℕ, List, [], ◌∷◌, ◌++◌, refl, sym, ap, subst, ◌∙◌, append-nil, append_assoc, inl, inr, arith}
-use Rattle.std.specs.Prelude.{Bool, true, Option, Some, None, length, Result, Ok, Err, OnErr}
+use Rattle.std.specs.Prelude.{Bool, true, Option, Some, None, Result, Ok, Err, OnErr}
 use Rattle.std.specs.List.{list_all}
 use Rattle.std.proofs.lemmas.Option.{slice_get_within}
-use Rattle.std.proofs.lemmas.Slice.Zip.{AllZip-long}
 use Rattle.elf_spec.specs.Image.{Image}
 use Rattle.byte_port.specs.Stream.{SendsPrefix}
 use Rattle.line_sender.specs.Pending.{Pending}
@@ -94,11 +93,6 @@ pub found_valid : (image : Image) (expanded : Expansion) (verdicts : List Verdic
     → list_all is_valid_verdict verdicts ≡ true
 found_valid image expanded verdicts (entry, g, found) =
     right_valid expanded.nodes g verdicts (λ k v is. slice_get_within verdicts k v is) (λ n below. found.right n (omega (arith, below, found.one_each)))
-
--- there is a node for each configuration
-pub found_long : (image : Image) (expanded : Expansion) (verdicts : List Verdict) → AreFound image expanded verdicts
-    → length expanded.configurations ≡ length expanded.nodes
-found_long image expanded verdicts (entry, g, found) = sym (AllZip-long _ _ _ found.graph.each)
 
 -- what holds anyway holds of an error
 pub err_of : {V E : Type 0} {P : Type 0} (r : Result V E) → P → OnErr r P

@@ -43,8 +43,3 @@ turned-names nodes node at steps members turned choices first whole is as_long h
         choices = subst P same has;
       },
     )
-
--- there is a member
-pub turned-some : (nodes : List Node) (node at : ℕ) (members turned : List ℕ) → IsDescent nodes node at members → turned ≡ reverse members → 0 < length turned
-turned-some nodes node at members turned whole is =
-    omega (arith, ap length is, length-reverse members, ap length whole.begins)

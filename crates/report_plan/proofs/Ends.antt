@@ -3,7 +3,7 @@ use Rattle.std.proofs.Common.{◌≡◌, ℕ, ◌+◌, ◌<◌, ◌⊎◌, inl, 
 use Rattle.std.specs.Prelude.{slice_get, ◌↔◌, IfSome, IfNone}
 use Rattle.std.specs.List.{Contains, list_all}
 use Rattle.std.proofs.Math.ListN.{get_or}
-use Rattle.std.proofs.lemmas.Bool.{false≢true}
+use Rattle.std.proofs.lemmas.Bool.{false≢true, and_parts}
 use Rattle.std.proofs.lemmas.List.{take_more}
 use Rattle.std.proofs.lemmas.List.Elements.{All-get_or, Contains-push_cases}
 use Rattle.std.proofs.lemmas.List.Sums.{AllPass-from_list_all}
@@ -165,13 +165,8 @@ valid-at verdicts n verdict valid has =
     subst P (get_or_from_slice_get verdicts n verdict AlwaysHit has)
     (All-get_or (λ verdict. is_valid_verdict verdict ≡ true) verdicts n AlwaysHit (slice_get_within verdicts n verdict has) all)
 
--- two tests that hold together
-both-parts : (a b : Bool) → IsTrue (a && b) → IsTrue a × IsTrue b
-both-parts true b is = (refl, is)
-both-parts false b is = absurd (false≢true is)
-
 -- so are the ways of one
 pub valid-ways : (verdicts : List Verdict) (n : ℕ) (hit miss : Way) → IsTrue (list_all is_valid_verdict verdicts) → slice_get verdicts n ≡ Some (Unknown hit miss)
     → IsTrue (is_valid_way hit) × IsTrue (is_valid_way miss)
 valid-ways verdicts n hit miss valid has =
-    both-parts (is_valid_way hit) (is_valid_way miss) (valid-at verdicts n (Unknown hit miss) valid has)
+    and_parts (is_valid_way hit) (is_valid_way miss) (valid-at verdicts n (Unknown hit miss) valid has)

@@ -2,7 +2,6 @@ pub mod Placed
 pub mod Edges
 pub mod Notes
 pub mod Descent
-pub mod Letters
 pub mod Ends
 pub mod Bare
 pub mod Depth

@@ -7,7 +7,7 @@ use Rattle.std.proofs.Math.ListN.{get_or}
 use Rattle.std.proofs.lemmas.Bool.{cases_lt}
 use Rattle.std.proofs.lemmas.List.{places}
 use Rattle.std.proofs.lemmas.List.FromFn.{length-range_with_len, get_or-range_with_len}
-use Rattle.std.proofs.lemmas.List.Sorted.{Contains-permutation, IsPermutation-sym}
+use Rattle.std.proofs.lemmas.List.Sorted.{Contains-permutation, IsPermutation-sym, length_permutation}
 use Rattle.path_model.specs.declared.graph.Node.{Node}
 use Rattle.path_model.specs.Graph.{address_of}
 use Rattle.node_spec.specs.Plan.{IsNodeAt}
@@ -24,6 +24,7 @@ range-members count n = (
 pub sorted-in_order : (nodes : List Node) (order : List ℕ) → IsNonDecreasingBy (address_of nodes) order
     → IsPermutation (range_with_len 0 (length nodes)) order → AreInOrder nodes order
 sorted-in_order nodes order rising moved = record {
+  one_each = length_permutation (range_with_len 0 (length nodes)) order moved ∙ length-range_with_len 0 (length nodes);
   rising = rising;
   members = λ n. (
     λ inside. (range-members (length nodes) n).0 (Contains-permutation order (range_with_len 0 (length nodes)) n (IsPermutation-sym (range_with_len 0 (length nodes)) order moved) inside),

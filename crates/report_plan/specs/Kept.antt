@@ -11,8 +11,9 @@ pub record Kept : Type 0 where
   pub order : List ℕ
   pub before : List ℕ
 
--- the numbers are those of all nodes, in order of address
+-- the numbers are those of all nodes, each once, in order of address
 pub record AreInOrder (nodes : List Node) (order : List ℕ) : Type 0 where
+  pub one_each : length order ≡ length nodes
   pub rising : IsNonDecreasingBy (address_of nodes) order
   pub members : (n : ℕ) → Contains order n ↔ (n < length nodes)
 

@@ -1,10 +1,11 @@
 // The one verdict of the nodes at an address.
 ghost use Rattle.std.specs.Prelude.{◌≡◌, ℕ, ◌<◌, List, length, IsTrue, IfOk, IfSome, IfNone};
-ghost use Rattle.std.specs.List.{Contains, list_all};
+ghost use Rattle.std.specs.List.{Contains};
 ghost use Rattle.report_spec.specs.Valid.{is_valid_way, is_valid_verdict};
 ghost use Rattle.node_spec.specs.Plan.{IsMerged, IsNodeAt};
 ghost use Rattle.report_plan.specs.Kept.{AreBefore, IsPlanOf};
 ghost use Rattle.report_plan.specs.Ending.{may_end, MayEnd, IsWayOf};
+ghost use Rattle.report_plan.specs.Valid.{AreValid};
 
 use crate::before::way_to;
 use crate::copies::copy_way;
@@ -50,10 +51,9 @@ fn way_of(
 ) -> Result<Way, AllocError>
     requires before { AreBefore graph.now before.now }
     requires one_each { length verdicts.now ≡ length graph.now }
-    requires valid { IsTrue (list_all is_valid_verdict verdicts.now) }
     requires ends { MayEnd verdicts.now hits node }
     ensures way { IfOk result (IsWayOf graph.now verdicts.now hits node) }
-    ensures valid { IfOk result (λ way. IsTrue (is_valid_way way)) }
+    ensures valid { IfOk result (λ way. AreValid verdicts.now → IsTrue (is_valid_way way)) }
 {
     match (&verdicts[node as usize], hits) {
         (Verdict::Unknown { hit, .. }, true) => copy_way(alloc, hit),
@@ -73,10 +73,9 @@ pub(crate) fn merged(
 ) -> Result<Option<Verdict>, AllocError>
     requires plan { IsPlanOf graph.now plan.now }
     requires one_each { length verdicts.now ≡ length graph.now }
-    requires valid { IsTrue (list_all is_valid_verdict verdicts.now) }
     ensures some { IfOk result (λ found. IfSome found (IsMerged graph.now verdicts.now address)) }
     ensures none { IfOk result (λ found. IfNone found ((n : ℕ) → IsNodeAt graph.now address n → ⊥)) }
-    ensures valid { IfOk result (λ found. IfSome found (λ verdict. IsTrue (is_valid_verdict verdict))) }
+    ensures valid { IfOk result (λ found. IfSome found (λ verdict. AreValid verdicts.now → IsTrue (is_valid_verdict verdict))) }
 {
     let here = nodes_at(plan.order(), graph.nodes(), address);
     let hit = first_ending(verdicts, here, true);

@@ -1,10 +1,9 @@
 // The order of the nodes, and the line at a place.
-ghost use Rattle.std.specs.Prelude.{◌≡◌, ◌<◌, ◌≤◌, length, true, false, option_map, IsTrue, IfOk, IfSome};
-ghost use Rattle.std.specs.List.{list_all};
+ghost use Rattle.std.specs.Prelude.{◌≡◌, ◌<◌, ◌≤◌, length, true, false, option_map, IfOk, IfSome};
 ghost use Rattle.elf_spec.specs.Word.{IsText};
-ghost use Rattle.report_spec.specs.Valid.{is_valid, is_valid_verdict};
 ghost use Rattle.node_spec.specs.Plan.{IsByAddress, IsByNumber, IsLineAt, IsLineOf, last_of};
 ghost use Rattle.report_plan.specs.Kept.{IsPlanOf};
+ghost use Rattle.report_plan.specs.Valid.{IsValidWith};
 
 use crate::before::befores;
 use crate::copies::copy_verdict;
@@ -57,8 +56,8 @@ impl Plan {
         &self.before
     }
 
-    /// The line at a place, and the place behind it, if there is one. The plan is of this program, which has one valid
-    /// verdict for each node.
+    /// The line at a place, and the place behind it, if there is one. The plan is of this program, which has one verdict
+    /// for each node. Where the verdicts are valid, so is the line.
     ///
     /// With `contexts` a place is the number of a node, and the line is that node's. Else it is an address, and the line
     /// is that of the least address of the text from it on: the one verdict of all nodes there, or the whole range of
@@ -77,9 +76,7 @@ impl Plan {
     ) -> Result<Option<(Line, Option<u32>)>, AllocError>
         requires plan { IsPlanOf expanded.now.nodes self.now }
         requires one_each { length verdicts.now ≡ length expanded.now.nodes }
-        requires valid { IsTrue (list_all is_valid_verdict verdicts.now) }
-        requires configurations { length expanded.now.configurations ≡ length expanded.now.nodes }
-        ensures valid { IfOk result (λ found. IfSome found (λ at. IsTrue (is_valid at.0))) }
+        ensures valid { IfOk result (λ found. IfSome found (λ at. IsValidWith verdicts.now at.0)) }
         ensures by_address { contexts ≡ false → IfOk result (λ found.
             IsByAddress image.now expanded.now.nodes verdicts.now from found) }
         ensures by_number { contexts ≡ true → IfOk result (λ found.
@@ -103,8 +100,7 @@ impl Plan {
     ) -> Result<Option<(Line, Option<u32>)>, AllocError>
         requires plan { IsPlanOf graph.now self.now }
         requires one_each { length verdicts.now ≡ length graph.now }
-        requires valid { IsTrue (list_all is_valid_verdict verdicts.now) }
-        ensures valid { IfOk result (λ found. IfSome found (λ at. IsTrue (is_valid at.0))) }
+        ensures valid { IfOk result (λ found. IfSome found (λ at. IsValidWith verdicts.now at.0)) }
         ensures by_address { IfOk result (λ found. IsByAddress image.now graph.now verdicts.now from found) }
     {
         let Some(at) = image.word_from(from) else {
@@ -126,9 +122,8 @@ impl Plan {
     ) -> Result<Line, AllocError>
         requires plan { IsPlanOf graph.now self.now }
         requires one_each { length verdicts.now ≡ length graph.now }
-        requires valid { IsTrue (list_all is_valid_verdict verdicts.now) }
         requires text { IsText image.now at }
-        ensures valid { IfOk result (λ line. IsTrue (is_valid line)) }
+        ensures valid { IfOk result (IsValidWith verdicts.now) }
         ensures line { IfOk result (IsLineAt image.now graph.now verdicts.now at) }
     {
         match merged(alloc, graph, self, verdicts, at)? {
@@ -159,9 +154,7 @@ fn line_by_number(
     from: u32,
 ) -> Result<Option<(Line, Option<u32>)>, AllocError>
     requires one_each { length verdicts.now ≡ length expanded.now.nodes }
-    requires valid { IsTrue (list_all is_valid_verdict verdicts.now) }
-    requires configurations { length expanded.now.configurations ≡ length expanded.now.nodes }
-    ensures valid { IfOk result (λ found. IfSome found (λ at. IsTrue (is_valid at.0))) }
+    ensures valid { IfOk result (λ found. IfSome found (λ at. IsValidWith verdicts.now at.0)) }
     ensures by_number { IfOk result (λ found. IsByNumber expanded.now.configurations verdicts.now from found) }
 {
     let count = expanded.graph().nodes().len() as u32;
@@ -182,9 +175,8 @@ fn context_line(
 ) -> Result<Line, AllocError>
     requires inside { node < length expanded.now.nodes }
     requires one_each { length verdicts.now ≡ length expanded.now.nodes }
-    requires valid { IsTrue (list_all is_valid_verdict verdicts.now) }
     requires configurations { length expanded.now.configurations ≡ length expanded.now.nodes }
-    ensures valid { IfOk result (λ line. IsTrue (is_valid line)) }
+    ensures valid { IfOk result (IsValidWith verdicts.now) }
     ensures line { IfOk result (IsLineOf expanded.now.configurations verdicts.now node) }
 {
     let config = expanded.config(node);

@@ -1,9 +1,7 @@
-ghost use Rattle.std.specs.Prelude.{◌≡◌, ◌≤◌, length, IfOk};
-ghost use Rattle.std.specs.List.{list_all};
-ghost use Rattle.report_spec.specs.Valid.{is_letter, is_valid_way, is_valid_verdict};
+ghost use Rattle.std.specs.Prelude.{◌≤◌, length};
 
 use crate::Plan;
-use call_expand::{Expanded, expand};
+use call_expand::expand;
 use elf_image::Image;
 use report_spec::{Choices, Line, Verdict, Way};
 use std::alloc::{AllocError, Global};
@@ -43,12 +41,6 @@ fn image_of(rt: &(impl Abort + AllocGlobal)) -> Result<Image, Fail> {
     Ok(elf_image::read(rt.alloc(), file)?)
 }
 
-fn expanded_of(alloc: Global, image: &Image) -> Result<Expanded, Fail>
-    ensures { IfOk result (λ expanded. length expanded.configurations ≡ length expanded.nodes) }
-{
-    Ok(expand(alloc, image, image.entry())?)
-}
-
 fn way(alloc: Global, steps: u64, letters: &[u8]) -> Result<Way, AllocError> {
     Ok(Way {
         steps,
@@ -72,35 +64,6 @@ fn verdicts_of(alloc: Global) -> Result<Vec<Verdict>, AllocError> {
             Verdict::AlwaysHit,
         ],
     )?)
-}
-
-fn are_valid(verdicts: &[Verdict]) -> bool
-    ensures { result ≡ list_all is_valid_verdict verdicts.now }
-{
-    verdicts.iter().all(is_valid_verdict)
-}
-
-fn is_valid_verdict(verdict: &Verdict) -> bool
-    ensures { result ≡ is_valid_verdict verdict.now }
-{
-    match verdict {
-        Verdict::AlwaysHit | Verdict::AlwaysMiss => true,
-        Verdict::Unknown { hit, miss } => is_valid_way(hit) && is_valid_way(miss),
-    }
-}
-
-fn is_valid_way(way: &Way) -> bool
-    ensures { result ≡ is_valid_way way.now }
-{
-    way.steps > 0 && are_letters(way.choices.letters())
-}
-
-fn are_letters(letters: &[u8]) -> bool
-    ensures { result ≡ list_all is_letter letters.now }
-{
-    letters
-        .iter()
-        .all(|letter| *letter == b'n' || *letter == b't')
 }
 
 fn way_text(alloc: Global, way: &Way) -> Result<String, AllocError> {
@@ -152,11 +115,10 @@ fn check(
 ) -> Result<(), Fail> {
     let alloc = rt.alloc();
     let image = image_of(rt)?;
-    let expanded = expanded_of(alloc, &image)?;
+    let expanded = expand(alloc, &image, image.entry())?;
     let plan = Plan::new(alloc, &expanded)?;
     let verdicts = verdicts_of(alloc)?;
     assert!(rt; verdicts.len() == expanded.graph().nodes().len());
-    assert!(rt; are_valid(&verdicts));
     let found = plan.line(alloc, &image, &expanded, &verdicts, contexts, from)?;
     match (found, expected) {
         (Some((line, next)), Some((text, place))) => {

@@ -1,8 +1,10 @@
 use Rattle.std.proofs.Common.{ℕ, List, subst, arith}
 use Rattle.std.specs.Prelude.{◌↔◌}
 use Rattle.std.specs.List.{Contains}
+use Rattle.std.proofs.lemmas.Bool.{and_from}
 use Rattle.path_model.specs.declared.graph.Node.{Node}
 use Rattle.node_spec.specs.Plan.{IsNodeAt}
+use Rattle.report_spec.specs.Valid.{is_valid_way}
 use Rattle.report_plan.proofs.Ends.{AreThose, all-hit, all-miss, none-there, hit-way, miss-way, none-found, some-found}
 use Rattle.report_plan.proofs.merge.merged.Goals as goal
 
@@ -57,3 +59,8 @@ returns-in_ok-way_of-in-Some-Some-2-clause-some c =
       hit-way c.args.graph.now c.args.verdicts.now c.args.address c.in-Some-Some.hit _ ((members c.in-Some-Some.hit).0 hit.0) c.in_ok-way_of-in-Some-Some.ensures.way,
       miss-way c.args.graph.now c.args.verdicts.now c.args.address c.in-Some-Some.miss _ ((members c.in-Some-Some.miss).0 miss.0) c.in_ok-way_of-in-Some-Some-2.ensures.way,
     )
+
+pub returns-in_ok-way_of-in-Some-Some-2-clause-valid : goal.returns-in_ok-way_of-in-Some-Some-2-clause-valid
+returns-in_ok-way_of-in-Some-Some-2-clause-valid c = λ all.
+    and_from (is_valid_way c.in_ok-way_of-in-Some-Some.field-0) (is_valid_way c.in_ok-way_of-in-Some-Some-2.field-0)
+    (c.in_ok-way_of-in-Some-Some.ensures.valid all) (c.in_ok-way_of-in-Some-Some-2.ensures.valid all)
