@@ -1,3 +1,4 @@
 pub mod Number
 pub mod Plain
+pub mod Options
 pub mod Settings

@@ -4,6 +4,8 @@
 //! it, and flags, which have none.
 #![tactic(auto)]
 
+mod laws;
 mod settings;
 
+pub use laws::options_laws;
 pub use settings::Settings;
