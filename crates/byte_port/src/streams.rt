@@ -2,7 +2,7 @@
 ghost use Rattle.std.specs.Prelude.{◌≡◌, ◌<◌, ◌≤◌, ◌+◌, length, IfOk, IfSome, OnOk, OnErr, IsErrOf};
 ghost use Rattle.std.specs.Io.KnownBytes.{Appends, Consumes, IsAtEnd};
 ghost use Rattle.byte_port.specs.Count.{CountsFaults, CountsRefusals};
-ghost use Rattle.byte_port.specs.Stream.{SendsPrefix, CountsStop, Takes, TakesAtMost};
+ghost use Rattle.byte_port.specs.Stream.{SendsPrefix, CountsStop, EndsAtFault, Takes, TakesAtMost};
 
 use crate::{Failed, Sink, SinkFault, Source};
 use std::alloc::{AllocError, Global};
@@ -55,6 +55,7 @@ pub fn read_all<S: Source>(alloc: Global, source: &mut S, limit: usize) -> Resul
     ensures fits { OnOk result (IfSome (S.left source.old) (λ all. length all ≤ limit)) }
     ensures too_big { IsErrOf result ReadStop.TooBig → IfSome (S.left source.old) (λ all. limit < length all) }
     ensures faults { CountsStop result (S.faults source.old) (S.faults source.new) }
+    ensures first_fault { OnErr result (EndsAtFault S.left S.faults source.old source.new) }
 {
     let mut bytes = Vec::new(alloc);
     let mut piece = [0u8; PIECE];
