@@ -3,7 +3,7 @@
 use Rattle.std.specs.Prelude.{◌≡◌, ◌⊎◌, ℕ, ◌+◌, List, Option, Some, Result, Ok, Err, ◌<◌, ◌≤◌, length, map, unwrap_or}
 use Rattle.std.specs.Io.KnownBytes.{Appends, Keeps, Consumes, IsAtEnd}
 use Rattle.byte_port.specs.Count.{Rose}
-use Rattle.byte_port.specs.Stream.{SendsPrefix, Takes}
+use Rattle.byte_port.specs.Stream.{SendsPrefix, Takes, TakesAtMost}
 use Rattle.elf_spec.specs.Image.{Image, image_of}
 use Rattle.elf_spec.specs.declared.fault.ElfFault.{ElfFault}
 use Rattle.transition_spec.specs.Layer.{all_of}
@@ -112,9 +112,10 @@ Read words status left now old new =
 -- what a run answers, of the bytes left in the source before and after, and of those sent to the sink before and after
 abbrev pub Answers : List (List ℕ) → Status → Option (List ℕ) → Option (List ℕ) → Option (List ℕ) → Option (List ℕ) → Type 0
 Answers words Usage left now old new = Keeps left now × Keeps old new
-Answers words ReadFault left now old new = Keeps old new
+Answers words ReadFault left now old new = TakesAtMost left now (file_limit + 1) × Keeps old new
 Answers words FileTooBig left now old new = Takes left now (file_limit + 1) × Keeps old new
-Answers words OutOfMemory left now old new = Keeps old new ⊎ Read words OutOfMemory left now old new
+Answers words OutOfMemory left now old new =
+    (TakesAtMost left now (file_limit + 1) × Keeps old new) ⊎ Read words OutOfMemory left now old new
 Answers words Done left now old new = Read words Done left now old new
 Answers words WriteFault left now old new = Read words WriteFault left now old new
 Answers words (Elf fault) left now old new = Read words (Elf fault) left now old new
@@ -172,7 +173,25 @@ abbrev pub CountsOut : Status → ℕ → ℕ → Type 0
 CountsOut WriteFault before now = Rose before now
 CountsOut status before now = now ≡ before
 
--- the sink has got the whole text, or a front of it where one of its counts rose
+-- the sink's count of refusals may have risen at want of memory, and is as it was else
+abbrev pub CountsOutRefusals : Status → ℕ → ℕ → Type 0
+CountsOutRefusals OutOfMemory before now = before ≤ now
+CountsOutRefusals status before now = now ≡ before
+
+-- the words, the source or the file are refused before anything is sent
+abbrev pub IsRefusal : Status → Type 0
+IsRefusal Usage = Unit {0}
+IsRefusal ReadFault = Unit {0}
+IsRefusal FileTooBig = Unit {0}
+IsRefusal (Elf fault) = Unit {0}
+IsRefusal (Flow fault) = Unit {0}
+IsRefusal (TooManyBlocks set count) = Unit {0}
+IsRefusal Done = ⊥
+IsRefusal WriteFault = ⊥
+IsRefusal OutOfMemory = ⊥
+
+-- the sink has got the whole text and no count rose, or a front of it and just one of its counts rose
 abbrev pub Reports : List ℕ → Option (List ℕ) → Option (List ℕ) → ℕ → ℕ → ℕ → ℕ → Type 0
 Reports text old new faults faults' refusals refusals' =
-    Appends old new text ⊎ (SendsPrefix old new text × (Rose faults faults' ⊎ Rose refusals refusals'))
+    (Appends old new text × (faults' ≡ faults) × (refusals' ≡ refusals))
+    ⊎ (SendsPrefix old new text × ((Rose faults faults' × (refusals' ≡ refusals)) ⊎ ((faults' ≡ faults) × Rose refusals refusals')))

@@ -2,7 +2,7 @@
 ghost use Rattle.std.specs.Prelude.{◌≡◌, ◌<◌, length, slice_get, Some, OnOk, OnErr};
 ghost use Rattle.std.specs.Io.KnownBytes.{Appends};
 ghost use Rattle.byte_port.specs.Stream.{SendsPrefix};
-ghost use Rattle.line_sender.specs.Pending.{CountsSend};
+ghost use Rattle.line_sender.specs.Pending.{CountsSend, CountsSendRefusals};
 ghost use Rattle.icache_top.specs.GraphLines.{graph_lines_of, graph_text_of};
 
 use byte_port::Sink;
@@ -17,6 +17,7 @@ pub fn send_graph<O: Sink>(alloc: Global, out: &mut O, expanded: &Expanded) -> R
     ensures whole { OnOk result (Appends (O.sent out.old) (O.sent out.new) (graph_text_of expanded.now)) }
     ensures part { OnErr result (SendsPrefix (O.sent out.old) (O.sent out.new) (graph_text_of expanded.now)) }
     ensures faults { CountsSend result (O.faults out.old) (O.faults out.new) }
+    ensures refusals { CountsSendRefusals result (O.refusals out.old) (O.refusals out.new) }
 {
     let mut buffer = Vec::with_capacity(alloc, PIECE)?;
     for node in 0..expanded.graph().nodes().len() as u32 {

@@ -2,7 +2,7 @@
 ghost use Rattle.std.specs.Prelude.{◌<◌, Some, IfOk, OnOk, OnErr};
 ghost use Rattle.byte_port.specs.Stream.{SendsPrefix};
 ghost use Rattle.std.specs.Io.KnownBytes.{Appends};
-ghost use Rattle.line_sender.specs.Pending.{Pending, CountsSend};
+ghost use Rattle.line_sender.specs.Pending.{Pending, CountsSend, CountsSendRefusals};
 ghost use Rattle.report_plan.specs.Kept.{IsPlanOf};
 ghost use Rattle.icache_top.specs.Lines.{AreFound, StandsAt, SendsAll, SendsNext, SendsPart, left_from};
 
@@ -36,6 +36,7 @@ pub fn send_report<O: Sink>(
     ensures part { OnErr result (SendsAll contexts found.now.image.now found.now.expanded.now found.now.verdicts.now
         (SendsPrefix (O.sent out.old) (O.sent out.new))) }
     ensures faults { CountsSend result (O.faults out.old) (O.faults out.new) }
+    ensures refusals { CountsSendRefusals result (O.refusals out.old) (O.refusals out.new) }
 {
     let plan = Plan::new(alloc, found.expanded)?;
     let mut buffer = Vec::with_capacity(alloc, PIECE)?;
@@ -66,6 +67,7 @@ fn send_from<O: Sink>(
         (SendsPart (StandsAt contexts found.now.image.now found.now.expanded.now found.now.verdicts.now) from
         (SendsPrefix (O.sent out.old) (O.sent out.new)) buffer.old.items) }
     ensures faults { CountsSend result (O.faults out.old) (O.faults out.new) }
+    ensures refusals { CountsSendRefusals result (O.refusals out.old) (O.refusals out.new) }
 {
     let Findings {
         image,

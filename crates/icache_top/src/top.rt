@@ -1,13 +1,14 @@
 ghost use Rattle.std.specs.Prelude.{◌≡◌, ◌≢◌, ◌↔◌, ℕ, ◌≤◌, List, [], Option, Some, IsNone, IsSome, IfSome, IfErr, length};
-ghost use Rattle.std.specs.Io.KnownBytes.{Keeps};
 ghost use Rattle.byte_port.specs.Count.{Rose};
+ghost use Rattle.byte_port.specs.Stream.{EndsAtFault};
 ghost use Rattle.command_spec.specs.Settings.{settings_of};
 ghost use Rattle.top_words.specs.Views.{bytes_of};
 ghost use Rattle.top_words.specs.FaultText.{fault_text};
+ghost use Rattle.top_words.specs.Status.{KeepsMemoryApart};
 ghost use Rattle.flow_spec.specs.Acceptance.{IsRefused};
 ghost use Rattle.flow_spec.specs.Successors.{successors};
 ghost use Rattle.report_lines.specs.Findings.{IsWithin};
-ghost use Rattle.icache_top.specs.Answer.{Answers, CountsOut, CountsSource, Decides, IsAcceptedWith, IsTextFrom, IsTooMuchFor, Reports, SaysOf, Tells, ToldOf, sent_as, settled_as, status_of, file_limit};
+ghost use Rattle.icache_top.specs.Answer.{Answers, CountsOut, CountsOutRefusals, CountsSource, Decides, IsAcceptedWith, IsRefusal, IsTextFrom, IsTooMuchFor, Reports, SaysOf, Tells, ToldOf, sent_as, settled_as, status_of, file_limit};
 
 use crate::graph::send_graph;
 use crate::report::{Findings, send_report};
@@ -53,12 +54,21 @@ pub fn run<R: Threads + Sync, S: Source, O: Sink, E: Sink, G: Gate + Sync>(
         → (Rose (S.faults source.old) (S.faults source.new) → ⊥) → (Rose (O.faults out.old) (O.faults out.new) → ⊥)
         → Decides (bytes_of words.now) file result.status (O.sent out.old) (O.sent out.new) }
 
-    // A fault only where its count rose, and no fault passed over.
+    // A fault only where its count rose, and no fault passed over or tried again.
     ensures reads { CountsSource result.status (S.faults source.old) (S.faults source.new) }
+    ensures first_fault { EndsAtFault S.left S.faults source.old source.new }
     ensures writes { CountsOut result.status (O.faults out.old) (O.faults out.new) }
+    ensures refusals { CountsOutRefusals result.status (O.refusals out.old) (O.refusals out.new) }
+
+    // Faulty words touch no port but `err`, and no refusal touches the sink.
+    ensures unread { result.status ≡ Status.Usage → source.new ≡ source.old }
+    ensures unsent { IsRefusal result.status → out.new ≡ out.old }
+
+    // Want of memory is a status of its own.
+    ensures memory { KeepsMemoryApart result.status }
 
     // What standard error gets.
-    ensures silent { result.status ≡ Status.Done → Keeps (E.sent err.old) (E.sent err.new) }
+    ensures silent { result.status ≡ Status.Done → err.new ≡ err.old }
     ensures told { result.status ≢ Status.Done → Reports (fault_text result.status) (E.sent err.old) (E.sent err.new)
         (E.faults err.old) (E.faults err.new) (E.refusals err.old) (E.refusals err.new) }
 
@@ -92,7 +102,12 @@ fn answer<S: Source, O: Sink>(
     ensures answer { Answers (bytes_of words.now) (status_of result)
         (S.left source.old) (S.left source.new) (O.sent out.old) (O.sent out.new) }
     ensures reads { CountsSource (status_of result) (S.faults source.old) (S.faults source.new) }
+    ensures first_fault { EndsAtFault S.left S.faults source.old source.new }
     ensures writes { CountsOut (status_of result) (O.faults out.old) (O.faults out.new) }
+    ensures refusals { CountsOutRefusals (status_of result) (O.refusals out.old) (O.refusals out.new) }
+    ensures unread { result ≡ Err Status.Usage → source.new ≡ source.old }
+    ensures unsent { IsRefusal (status_of result) → out.new ≡ out.old }
+    ensures memory { KeepsMemoryApart (status_of result) }
 {
     let Some(settings) = read_words(words) else {
         return Err(Status::Usage);
@@ -112,6 +127,9 @@ fn answer_file<O: Sink>(
     ensures not_done { IfErr result (λ status. status ≢ Status.Done) }
     ensures told { Tells settings.now file.items (status_of result) (O.sent out.old) (O.sent out.new) }
     ensures writes { CountsOut (status_of result) (O.faults out.old) (O.faults out.new) }
+    ensures refusals { CountsOutRefusals (status_of result) (O.refusals out.old) (O.refusals out.new) }
+    ensures unsent { IsRefusal (status_of result) → out.new ≡ out.old }
+    ensures memory { KeepsMemoryApart (status_of result) }
 {
     let image = elf_image::read(alloc, file)?;
     match *settings {
@@ -144,6 +162,9 @@ fn classify<O: Sink>(
         (λ text. IsAcceptedWith image.now entry (λ layers. IsTextFrom settings image.now entry layers text))
         (status_of result) (O.sent out.old) (O.sent out.new) }
     ensures writes { CountsOut (status_of result) (O.faults out.old) (O.faults out.new) }
+    ensures refusals { CountsOutRefusals (status_of result) (O.refusals out.old) (O.refusals out.new) }
+    ensures unsent { IsRefusal (status_of result) → out.new ≡ out.old }
+    ensures memory { KeepsMemoryApart (status_of result) }
 {
     let expanded = expand(alloc, image, entry)?;
     let verdicts = settled(node_verdicts(alloc, expanded.graph(), geometry))?;
@@ -164,6 +185,9 @@ fn graph<O: Sink>(alloc: Global, out: &mut O, image: &Image, entry: u32) -> Resu
         (λ text. IsAcceptedWith image.now entry (λ layers. IsTextFrom settings image.now entry layers text))
         (status_of result) (O.sent out.old) (O.sent out.new) }
     ensures writes { CountsOut (status_of result) (O.faults out.old) (O.faults out.new) }
+    ensures refusals { CountsOutRefusals (status_of result) (O.refusals out.old) (O.refusals out.new) }
+    ensures unsent { IsRefusal (status_of result) → out.new ≡ out.old }
+    ensures memory { KeepsMemoryApart (status_of result) }
 {
     let expanded = expand(alloc, image, entry)?;
     sent(send_graph(alloc, out, &expanded))

@@ -7,7 +7,7 @@
 //! on `verdict_report`.
 #![tactic(auto)]
 
-ghost use Rattle.std.specs.Prelude.{◌≡◌, ◌<◌, ◌++◌, [], length, IsTrue, IsOk, OnOk, OnErr};
+ghost use Rattle.std.specs.Prelude.{◌≡◌, ◌<◌, ◌++◌, [], length, vec_capacity, IsTrue, IsOk, OnOk, OnErr};
 ghost use Rattle.std.specs.List.{list_all};
 ghost use Rattle.std.specs.Io.KnownBytes.{Appends};
 ghost use Rattle.byte_port.specs.Stream.{SendsPrefix};
@@ -115,6 +115,7 @@ fn hand_on<O: Sink>(out: &mut O, buffer: &mut Vec<u8>) -> Result<(), SendStop>
 pub fn finish<O: Sink>(out: &mut O, buffer: &mut Vec<u8>) -> Result<(), SendStop>
     ensures whole { OnOk result (Appends (O.sent out.old) (O.sent out.new) buffer.old.items) }
     ensures empty { OnOk result (buffer.new.items ≡ []) }
+    ensures room { OnOk result (vec_capacity buffer.new ≡ vec_capacity buffer.old) }
     ensures part { OnErr result (SendsPrefix (O.sent out.old) (O.sent out.new) buffer.old.items) }
     ensures faults { CountsSend result (O.faults out.old) (O.faults out.new) }
     ensures refusals { CountsSendRefusals result (O.refusals out.old) (O.refusals out.new) }

@@ -23,6 +23,12 @@ code_of (TooManyBlocks set count) = 8
 code_of (Flow (flow.TooManyFetches limit)) = 8
 code_of (Flow fault) = 7
 
+-- want of memory is a status of its own, and never inside another
+abbrev pub KeepsMemoryApart : Status → Type 0
+KeepsMemoryApart (Elf elf.OutOfMemory) = ⊥
+KeepsMemoryApart (Flow flow.OutOfMemory) = ⊥
+KeepsMemoryApart status = Unit {0}
+
 abbrev pub of_stop : ReadStop → Status
 of_stop stops.Failed = ReadFault
 of_stop stops.TooBig = FileTooBig

@@ -26,7 +26,7 @@ impl Model for ShortText {
 }
 
 impl ShortText {
-    pub fn new() -> Self
+    pub(crate) fn new() -> Self
         ensures { result ≡ [] }
     {
         ShortText {
@@ -41,7 +41,7 @@ impl ShortText {
         &self.bytes[..self.len]
     }
 
-    pub fn push(&mut self, piece: &[u8])
+    pub(crate) fn push(&mut self, piece: &[u8])
         requires { length self.old + length piece.now ≤ 512 }
         ensures text { self.new ≡ self.old ++ piece.now }
         ensures length { length self.new ≡ length self.old + length piece.now }
@@ -52,7 +52,7 @@ impl ShortText {
     }
 
     /// A name and a decimal behind it.
-    pub fn push_counted(&mut self, name: &[u8], n: u64)
+    pub(crate) fn push_counted(&mut self, name: &[u8], n: u64)
         requires { length self.old + length name.now ≤ 480 }
         ensures text { self.new ≡ self.old ++ counted name.now n }
         ensures length { length self.new ≤ length self.old + length name.now + 20 }
@@ -63,7 +63,7 @@ impl ShortText {
     }
 
     /// A name and an address behind it.
-    pub fn push_placed(&mut self, name: &[u8], address: u32)
+    pub(crate) fn push_placed(&mut self, name: &[u8], address: u32)
         requires { length self.old + length name.now ≤ 500 }
         ensures text { self.new ≡ self.old ++ placed name.now address }
         ensures length { length self.new ≡ length self.old + length name.now + 10 }

@@ -27,6 +27,7 @@ loop-node-preserved g c = record {
   pending = rw (← text-take_more (graph_lines_of c.args.expanded.now) c.loop-node.node c.line_of.result c.line_of.ensures)
       (Pending-line _ _ _ _ _ _ _ c.loop-node.invariant.pending c.in_ok-send_graph_line.ensures.pending);
   faults = grind (arith, c.in_ok-send_graph_line.ensures.faults, c.loop-node.invariant.faults);
+  refusals = grind (arith, c.in_ok-send_graph_line.ensures.refusals, c.loop-node.invariant.refusals);
 }
 
 pub returns-clause-whole : goal.returns-clause-whole

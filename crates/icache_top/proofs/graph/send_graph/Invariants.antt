@@ -10,4 +10,5 @@ abbrev pub invariant-loop-node : goal.invariant-loop-node
 invariant-loop-node g l = record {
   pending : Pending (g.O.Sink.sent l.initial.out) (g.O.Sink.sent l.out) l.buffer.items (flat_map graph_line_text (take l.node (graph_lines_of l.expanded)));
   faults : g.O.Sink.faults l.out ≡ g.O.Sink.faults l.initial.out;
+  refusals : g.O.Sink.refusals l.out ≡ g.O.Sink.refusals l.initial.out;
 }

@@ -30,6 +30,7 @@ loop-place-init g c =
         subst (λ (text : List ℕ). Pending a a c.in_ok-buffer.buffer.items text) c.in_ok-buffer.ensures.items (Pending-start a c.in_ok-buffer.buffer.items),
       );
       faults = refl;
+      refusals = refl;
     }
 
 pub returns-in_err-place-clause-part : goal.returns-in_err-place-clause-part
@@ -48,6 +49,7 @@ loop-place-preserved g c =
     record {
       lines = sent_next At _ _ _ c.loop-place.buffer.items c.send_from.new.buffer.items c.in-Some.from c.in_ok-place.place before c.in_ok-place.ensures.pending;
       faults = c.in_ok-place.ensures.faults ∙ c.loop-place.invariant.faults;
+      refusals = c.in_ok-place.ensures.refusals ∙ c.loop-place.invariant.refusals;
     }
 
 pub returns-clause-whole : goal.returns-clause-whole
