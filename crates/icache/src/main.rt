@@ -2,6 +2,10 @@
 //! its name, and ends with the status's code.
 #![tactic(auto)]
 
+ghost use Rattle.std.specs.Prelude.{◌≡◌};
+ghost use Rattle.std.specs.Process.{exit_status};
+ghost use Rattle.top_words.specs.Status.{code_of};
+
 use byte_port::{ReadPort, WritePort, send_all};
 use icache_top::{IdleGate, Status, run};
 use std::alloc::Global;
@@ -31,6 +35,13 @@ fn main(rt: HostRuntime) -> ExitCode {
             status
         }
     };
+    exit_code(&status)
+}
+
+/// The code of a status, as the process ends with it.
+fn exit_code(status: &Status) -> ExitCode
+    ensures { exit_status result ≡ code_of status.now }
+{
     ExitCode::from(status.code())
 }
 
