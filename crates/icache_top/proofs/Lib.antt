@@ -5,3 +5,4 @@ pub mod GraphText
 pub mod Told
 pub mod Complete
 pub mod Reported
+pub mod OneAnswer

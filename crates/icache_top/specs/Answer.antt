@@ -17,6 +17,7 @@ use Rattle.report_spec.specs.Graph.{IsGraphText}
 use Rattle.command_spec.specs.declared.settings.Settings.{Settings}
 use Rattle.command_spec.specs.declared.settings.Settings.TheVariants.{Classify, Graph}
 use Rattle.command_spec.specs.Settings.{settings_of}
+use Rattle.one_answer.specs.Alike.{AreAlikeTexts}
 use Rattle.node_verdicts.specs.declared.verdicts.VerdictsFault.{VerdictsFault}
 use Rattle.node_verdicts.specs.declared.verdicts.VerdictsFault.TheVariants as faults
 use Rattle.line_sender.specs.declared.SendStop.{SendStop}
@@ -146,6 +147,11 @@ Decides words file Usage old new = ⊥
 Decides words file ReadFault old new = ⊥
 Decides words file WriteFault old new = ⊥
 Decides words file status old new = SaysOf words file status old new
+
+-- two texts are the same but for what is free in them: the ways of a report's unknown lines
+abbrev pub AreSameFor : Settings → List ℕ → List ℕ → Type 0
+AreSameFor (Classify geometry entry contexts) text other = AreAlikeTexts text other
+AreSameFor (Graph entry) text other = text ≡ other
 
 -- the end of a sending, as a status
 abbrev pub sent_as : Result (Unit {0}) SendStop → Result (Unit {0}) Status

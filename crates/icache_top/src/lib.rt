@@ -2,7 +2,8 @@
 //!
 //! Stands on the crates below: `top_words` reads the words, `byte_port` the file, `elf_image` the executable;
 //! `call_expand` expands its calls, `node_verdicts` finds the verdicts, `report_plan` the lines, and `line_sender` sends
-//! them. `run` joins them, and its contract is about what it is handed: words, a source, and two sinks.
+//! them. `run` joins them, and its contract is about what it is handed: words, a source, and two sinks. `answer_laws`
+//! says that the contract leaves one answer.
 #![tactic(auto)]
 
 mod gate;
@@ -11,6 +12,7 @@ mod graph;
 mod graphs;
 #[cfg(test)]
 mod hostile;
+mod laws;
 mod outcome;
 mod report;
 #[cfg(test)]
@@ -20,6 +22,7 @@ mod top;
 mod verdicts;
 
 pub use gate::{Gate, IdleGate};
+pub use laws::answer_laws;
 pub use outcome::{JobRecord, Jobs, NodeWords, Outcome, Place, Places};
 pub use top::run;
 pub use top_words::Status;

@@ -1,0 +1,9 @@
+pub mod Listed
+pub mod Layers
+pub mod Programs
+pub mod Verdicts
+pub mod Addresses
+pub mod Contexts
+pub mod Reports
+pub mod Graphs
+pub mod Blocks

@@ -1,0 +1,36 @@
+// What is the same of every answer to a program.
+ghost use Rattle.std.specs.Prelude.{◌≡◌, ℕ, Bool, List};
+ghost use Rattle.elf_spec.specs.Image.{Image};
+ghost use Rattle.cache_spec.specs.Geometry.{Geometry};
+ghost use Rattle.transition_spec.specs.Layer.{all_of};
+ghost use Rattle.flow_spec.specs.declared.fault.FlowFault.{FlowFault};
+ghost use Rattle.flow_spec.specs.Acceptance.{Step, IsAccepted, IsRefused};
+ghost use Rattle.flow_spec.specs.Configuration.{Configuration};
+ghost use Rattle.node_spec.specs.Blocks.{HaveFewInAll, HaveMany};
+ghost use Rattle.report_spec.specs.Graph.{IsGraphText};
+ghost use Rattle.report_spec.specs.Report.{IsReport};
+ghost use Rattle.one_answer.specs.Alike.{AreAlikeTexts};
+
+/// A program is accepted or refused, with one numbering or one fault; and one set is the first with too many blocks, or
+/// none is.
+pub fn one_answer()
+    ensures either { (step : Step) (image : Image) (entry : ℕ) (layers : List (List Configuration)) (fault : FlowFault)
+        → IsAccepted step image entry layers → IsRefused step image entry fault → ⊥ }
+    ensures numbering { (step : Step) (image : Image) (entry : ℕ) (layers others : List (List Configuration))
+        → IsAccepted step image entry layers → IsAccepted step image entry others → all_of layers ≡ all_of others }
+    ensures fault { (step : Step) (image : Image) (entry : ℕ) (fault other : FlowFault)
+        → IsRefused step image entry fault → IsRefused step image entry other → fault ≡ other }
+    ensures few { (addresses : List ℕ) (g : Geometry) (set count : ℕ)
+        → HaveFewInAll addresses g → HaveMany addresses g set count → ⊥ }
+    ensures many { (addresses : List ℕ) (g : Geometry) (set count other number : ℕ)
+        → HaveMany addresses g set count → HaveMany addresses g other number → (set ≡ other) × (count ≡ number) }
+{}
+
+/// All of a report but the ways of its unknown lines is told by the program and the geometry, and all of the text of a
+/// graph by the program.
+pub fn one_text()
+    ensures report { (image : Image) (entry : ℕ) (g : Geometry) (contexts : Bool) (text other : List ℕ)
+        → IsReport image entry g contexts text → IsReport image entry g contexts other → AreAlikeTexts text other }
+    ensures graph { (image : Image) (entry : ℕ) (text other : List ℕ)
+        → IsGraphText image entry text → IsGraphText image entry other → text ≡ other }
+{}
