@@ -49,7 +49,7 @@ text_or_many : (settings : Settings) (image : Image) (entry : ℕ) (text : List 
     → IsAcceptedWith image entry (λ layers. IsTooMuchFor settings layers set count) → ⊥
 text_or_many (Classify g words_entry contexts) image entry text set count (layers, accepted, are) (layers', accepted', many) =
     let same : addresses_of layers' ≡ addresses_of layers =
-        ap (λ cs. map (λ (c : Configuration). c.at) cs) (one_numbering (successors image entry) entry image layers' layers accepted' accepted) in
+    ap (λ cs. map (λ (c : Configuration). c.at) cs) (one_numbering (successors image entry) entry image layers' layers accepted' accepted) in
     few_in_all_many (addresses_of layers) g set count are.0 (subst (λ addresses. HaveMany addresses g set count) same many)
 text_or_many (Graph words_entry) image entry text set count (layers, accepted, is) (layers', accepted', many) = many
 
@@ -59,7 +59,7 @@ one_set : (settings : Settings) (image : Image) (entry set count other number : 
     → IsAcceptedWith image entry (λ layers. IsTooMuchFor settings layers other number) → (set ≡ other) × (count ≡ number)
 one_set (Classify g words_entry contexts) image entry set count other number (layers, accepted, many) (layers', accepted', many') =
     let same : addresses_of layers' ≡ addresses_of layers =
-        ap (λ cs. map (λ (c : Configuration). c.at) cs) (one_numbering (successors image entry) entry image layers' layers accepted' accepted) in
+    ap (λ cs. map (λ (c : Configuration). c.at) cs) (one_numbering (successors image entry) entry image layers' layers accepted' accepted) in
     one_many (addresses_of layers) g set count other number many (subst (λ addresses. HaveMany addresses g other number) same many')
 one_set (Graph words_entry) image entry set count other number (layers, accepted, many) (layers', accepted', many') = absurd many
 
