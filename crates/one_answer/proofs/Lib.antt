@@ -1,6 +1,7 @@
 pub mod Listed
 pub mod Layers
 pub mod Programs
+pub mod Ways
 pub mod Verdicts
 pub mod Addresses
 pub mod Contexts

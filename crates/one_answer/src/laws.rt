@@ -2,10 +2,14 @@
 ghost use Rattle.std.specs.Prelude.{◌≡◌, ℕ, Bool, List};
 ghost use Rattle.elf_spec.specs.Image.{Image};
 ghost use Rattle.cache_spec.specs.Geometry.{Geometry};
+ghost use Rattle.transition_spec.specs.declared.way.Way.{Way};
 ghost use Rattle.transition_spec.specs.Layer.{all_of};
+ghost use Rattle.transition_spec.specs.Named.{Names};
+ghost use Rattle.transition_spec.specs.Path.{IsPath};
 ghost use Rattle.flow_spec.specs.declared.fault.FlowFault.{FlowFault};
 ghost use Rattle.flow_spec.specs.Acceptance.{Step, IsAccepted, IsRefused};
-ghost use Rattle.flow_spec.specs.Configuration.{Configuration};
+ghost use Rattle.flow_spec.specs.Configuration.{Configuration, start_of};
+ghost use Rattle.flow_spec.specs.Successors.{successors};
 ghost use Rattle.node_spec.specs.Blocks.{HaveFewInAll, HaveMany};
 ghost use Rattle.report_spec.specs.Graph.{IsGraphText};
 ghost use Rattle.report_spec.specs.Report.{IsReport};
@@ -24,6 +28,13 @@ pub fn one_answer()
         → HaveFewInAll addresses g → HaveMany addresses g set count → ⊥ }
     ensures many { (addresses : List ℕ) (g : Geometry) (set count other number : ℕ)
         → HaveMany addresses g set count → HaveMany addresses g other number → (set ≡ other) × (count ≡ number) }
+{}
+
+/// A way names at most one path of a program, so that an unknown line tells which path hits and which one misses.
+pub fn one_path()
+    ensures { (image : Image) (entry : ℕ) (way : Way) (path other : List Configuration)
+        → IsPath (successors image entry) (start_of entry) path → IsPath (successors image entry) (start_of entry) other
+        → Names (successors image entry) way path → Names (successors image entry) way other → path ≡ other }
 {}
 
 /// All of a report but the ways of its unknown lines is told by the program and the geometry, and all of the text of a

@@ -1,5 +1,5 @@
 -- The one verdict of some nodes, from what the verdict of each says of the ends of paths.
-use Rattle.std.proofs.Common.{◌≡◌, ℕ, ◌+◌, ◌<◌, ◌⊎◌, inl, inr, ⊎_elim, List, length, take, true, false, Bool, ◌&&◌, Option, Some, None, IsTrue, refl, ap, sym, ◌∙◌, subst, arith}
+use Rattle.std.proofs.Common.{◌≡◌, ℕ, ◌+◌, ◌<◌, ◌⊎◌, inl, inr, ⊎_elim, List, length, take, true, false, Bool, Option, Some, None, IsTrue, refl, ap, sym, ◌∙◌, subst, arith}
 use Rattle.std.specs.Prelude.{slice_get, ◌↔◌, IfSome, IfNone}
 use Rattle.std.specs.List.{Contains, list_all}
 use Rattle.std.proofs.Math.ListN.{get_or}

@@ -1,5 +1,4 @@
 pub mod Placed
-pub mod Edges
 pub mod Notes
 pub mod Descent
 pub mod Ends

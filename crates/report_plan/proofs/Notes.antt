@@ -12,7 +12,7 @@ use Rattle.transition_spec.specs.Path.{IsSuccessor}
 use Rattle.path_model.specs.declared.graph.Node.{Node}
 use Rattle.path_model.specs.Graph.{IsGraph, graph_step}
 use Rattle.report_plan.specs.Kept.{AreBefore, AreNoted, noted}
-use Rattle.report_plan.proofs.Edges.{successor-from_node, node-from_successor}
+use Rattle.path_model.proofs.Edges.{successor-from_node, node-from_successor}
 
 -- a note is made where the number is greater and has a place, and no other place changes
 pub record NotesOne (before after : List ℕ) (from : ℕ) (to : Option ℕ) : Type 0 where
