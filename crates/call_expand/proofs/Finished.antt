@@ -8,6 +8,7 @@ use Rattle.std.specs.BTreeMap.{BTreeMap}
 use Rattle.std.proofs.lemmas.Bool.Decides.{nat_tests}
 use Rattle.std.proofs.lemmas.List.{map-append, length-map, get_or-map, take_all, drop_all}
 use Rattle.std.proofs.lemmas.Option.{slice_get_within, get_or_from_slice_get}
+use Rattle.list_lemmas.proofs.Members.{found-inside, has-map, from-map, each-has, all-from_each}
 use Rattle.elf_spec.specs.Image.{Image}
 use Rattle.elf_spec.specs.Word.{IsText}
 use Rattle.transition_spec.specs.Path.{IsSuccessor}
@@ -29,11 +30,10 @@ use Rattle.call_expand.specs.Numbers.{AreNumbers, HasNumber, IsNodeFor, AreNodes
 use Rattle.call_expand.specs.Search.{IsWalked, IsAt}
 use Rattle.call_expand.proofs.Zipped.{all-weaker, all-map, zip-length, zip-at}
 use Rattle.call_expand.proofs.Ordered.{place, same_place}
-use Rattle.call_expand.proofs.New.{each-from_all, all-from_each}
 use Rattle.call_expand.proofs.Texts.{good-text}
 use Rattle.call_expand.proofs.Walked.{walked_begin, accepted}
 use Rattle.call_expand.proofs.Layer.{edge-from, edges-places}
-use Rattle.call_expand.proofs.Paths.{Contains-map, from-map, links, element}
+use Rattle.call_expand.proofs.Paths.{links}
 use Rattle.call_expand.proofs.Numbered.{listed-at}
 
 -- the number is that of a successor of the node
@@ -201,10 +201,10 @@ module _ (image : Image) (entry : ℕ) (cells : List StackCell) (places : List P
       let q = edge-from (successors image entry) image cells places edges p each has in
       let P : List Configuration → Type 0 = λ cs. Contains cs (configuration_at cells p) in
       let closed = walked.searched.closed (configuration_at cells q.0) (configuration_at cells p)
-      (Contains-map (configuration_at cells) places q.0 q.1) q.2 in
+      (has-map (configuration_at cells) places q.0 q.1) q.2 in
       let r = from-map (configuration_at cells) places (configuration_at cells p) (subst P (append-nil all_configurations) closed) in
-      let is = each-from_all (IsPlace image cells) (flat_map places_of edges) (edges-places (successors image entry) image cells places edges each) p has in
-      let known = each-from_all (IsPlace image cells) places at.are_places r.0 r.1 in
+      let is = each-has (IsPlace image cells) (flat_map places_of edges) (edges-places (successors image entry) image cells places edges each) p has in
+      let known = each-has (IsPlace image cells) places at.are_places r.0 r.1 in
       let one : r.0 ≡ p = same_place cells r.0 p at.are_cells known.known is.known r.2 in
       let Q : Place → Type 0 = λ p. Contains places p in
       subst Q one r.1)
@@ -214,11 +214,11 @@ module _ (image : Image) (entry : ℕ) (cells : List StackCell) (places : List P
       → numbered all_configurations n ≡ numbered all_configurations m → n ≡ m
   configurations_apart n m first second same =
       let long : length all_configurations ≡ length places = length-map places (configuration_at cells) in
-      let p = element places n (omega (arith, long)) in
-      let q = element places m (omega (arith, long)) in
+      let p = found-inside places n (omega (arith, long)) in
+      let q = found-inside places m (omega (arith, long)) in
       let are = sym (numbered-place cells places n p.0 p.1) ∙ same ∙ numbered-place cells places m q.0 q.1 in
-      let first_is = each-from_all (IsPlace image cells) places at.are_places p.0 (listed-at places n p.0 p.1) in
-      let second_is = each-from_all (IsPlace image cells) places at.are_places q.0 (listed-at places m q.0 q.1) in
+      let first_is = each-has (IsPlace image cells) places at.are_places p.0 (listed-at places n p.0 p.1) in
+      let second_is = each-has (IsPlace image cells) places at.are_places q.0 (listed-at places m q.0 q.1) in
       let one : p.0 ≡ q.0 = same_place cells p.0 q.0 at.are_cells first_is.known second_is.known are in
       let P : Place → Type 0 = λ p. slice_get places n ≡ Some p in
       let number : Some n ≡ Some m =
@@ -246,7 +246,7 @@ module _ (image : Image) (entry : ℕ) (cells : List StackCell) (places : List P
     back_to : (n m : ℕ) → n < length nodes → m < length nodes
         → IsSuccessor (successors image entry) (numbered all_configurations n) (numbered all_configurations m) → IsSuccessor (graph_step nodes) n m
     back_to n m first second follows =
-        let node = element nodes n first in
+        let node = found-inside nodes n first in
         let long : length all_configurations ≡ length places = length-map places (configuration_at cells) in
         let P : Node → Type 0 = λ node. IsNodeOf (successors image entry) all_configurations (numbered all_configurations n) node in
         let is = subst P (get_or_from_slice_get nodes n node.0 node.0 node.1)

@@ -9,6 +9,7 @@ use Rattle.std.specs.declared.cmp.Ordering.TheVariants.{Less}
 use Rattle.std.proofs.lemmas.List.{map-append}
 use Rattle.std.proofs.lemmas.List.Elements.{Contains-append_left, Contains-append_right, Contains-append_cases}
 use Rattle.std.proofs.lemmas.List.Sorted.{Contains-permutation, IsPermutation-sym}
+use Rattle.list_lemmas.proofs.Members.{has-none, has-first, has-later, has-cases, has-map, from-map, each-has, all-from_each}
 use Rattle.elf_spec.specs.Image.{Image}
 use Rattle.transition_spec.specs.Path.{IsSuccessor}
 use Rattle.flow_spec.specs.Acceptance.{Step}
@@ -24,8 +25,7 @@ use Rattle.call_expand.specs.Numbers.{AreNew}
 use Rattle.call_expand.specs.Search.{AreNext}
 use Rattle.call_expand.proofs.Zipped.{all-append, all-map}
 use Rattle.call_expand.proofs.Ordered.{place_total, same_configuration, same_place}
-use Rattle.call_expand.proofs.New.{has-first, has-rest, has-cases, has-none, each-from_all, all-from_each, new-listed, new-unseen, new-all, new-sorted}
-use Rattle.call_expand.proofs.Paths.{Contains-map, from-map}
+use Rattle.call_expand.proofs.New.{new-listed, new-unseen, new-all, new-sorted}
 
 -- a list in order by what a function gives is so given in order
 sorted-map : {X Y : Type 0} (order : Y → Y → Ordering) (f : X → Y) (xs : List X) → IsStrictlySortedBy (λ a b. order (f a) (f b)) xs
@@ -46,9 +46,9 @@ module _ (step : Step) (image : Image) (cells : List StackCell) where
       ⊎_elim
       (λ (here : Contains (places_of edge) p).
       let P : Successors → Type 0 = λ r. IsOkAnd r (λ s. Contains s (configuration_at cells p)) in
-      (q, has-first q places, subst P (sym each.0.goes) (Contains-map (configuration_at cells) (places_of edge) p here)))
+      (q, has-first q places, subst P (sym each.0.goes) (has-map (configuration_at cells) (places_of edge) p here)))
       (λ (later : Contains (flat_map places_of edges) p).
-      let rest = edge-from places edges p each.1 later in (rest.0, has-rest q rest.0 places rest.1, rest.2))
+      let rest = edge-from places edges p each.1 later in (rest.0, has-later q rest.0 places rest.1, rest.2))
       (Contains-append_cases (places_of edge) (flat_map places_of edges) p has)
 
   -- a successor of such a one is a place that they lead to
@@ -85,13 +85,13 @@ module _ (step : Step) (image : Image) (cells : List StackCell) where
     -- what is found are places
     pub are_found : ArePlaces image cells found
     are_found = all-from_each (IsPlace image cells) found (λ p has.
-        each-from_all (IsPlace image cells) (flat_map places_of more) (edges-places last more each) p
+        each-has (IsPlace image cells) (flat_map places_of more) (edges-places last more each) p
         (Contains-permutation found (flat_map places_of more) p (IsPermutation-sym (flat_map places_of more) found same) has))
 
     -- so are the new ones
     pub are_new : ArePlaces image cells new
     are_new = all-from_each (IsPlace image cells) new (λ p has.
-        each-from_all (IsPlace image cells) found are_found p (new-listed found (before ++ last) new are p has))
+        each-has (IsPlace image cells) found are_found p (new-listed found (before ++ last) new are p has))
 
     -- places of one configuration among these are the same
     one_place : (a b : Place) → IsPlace image cells a → IsPlace image cells b → configuration_at cells a ≡ configuration_at cells b → a ≡ b
@@ -115,14 +115,14 @@ module _ (step : Step) (image : Image) (cells : List StackCell) where
           let q = edge-from last more p.0 each
           (Contains-permutation found (flat_map places_of more) p.0 (IsPermutation-sym (flat_map places_of more) found same) listed) in
           let P : Configuration → Type 0 = λ c. IsSuccessor step (configuration_at cells q.0) c in
-          (configuration_at cells q.0, Contains-map (configuration_at cells) last q.0 q.1, subst P p.2 q.2);
+          (configuration_at cells q.0, has-map (configuration_at cells) last q.0 q.1, subst P p.2 q.2);
       unseen = λ c has old.
           let p = from-map (configuration_at cells) new c has in
           let P : List Configuration → Type 0 = λ cs. Contains cs c in
           let q = from-map (configuration_at cells) (before ++ last) c (subst P (sym before_last) old) in
           let are_old = all-append (IsPlace image cells) before last are_before are_last in
-          let one = one_place q.0 p.0 (each-from_all (IsPlace image cells) (before ++ last) are_old q.0 q.1)
-          (each-from_all (IsPlace image cells) new are_new p.0 p.1) (q.2 ∙ sym p.2) in
+          let one = one_place q.0 p.0 (each-has (IsPlace image cells) (before ++ last) are_old q.0 q.1)
+          (each-has (IsPlace image cells) new are_new p.0 p.1) (q.2 ∙ sym p.2) in
           let Q : Place → Type 0 = λ p. Contains (before ++ last) p in
           new-unseen found (before ++ last) new are p.0 p.1 (subst Q one q.1);
       all = λ b c has follows.
@@ -133,5 +133,5 @@ module _ (step : Step) (image : Image) (cells : List StackCell) where
           let Q : List Configuration → Type 0 = λ cs. Contains cs (configuration_at cells p.0) in
           let R : Configuration → Type 0 = λ c. Contains ((configurations_at cells before ++ configurations_at cells last) ++ configurations_at cells new) c in
           let whole = map-append (configuration_at cells) (before ++ last) new ∙ ap (λ cs. cs ++ configurations_at cells new) before_last in
-          subst R p.2 (subst Q whole (Contains-map (configuration_at cells) ((before ++ last) ++ new) p.0 known));
+          subst R p.2 (subst Q whole (has-map (configuration_at cells) ((before ++ last) ++ new) p.0 known));
     }

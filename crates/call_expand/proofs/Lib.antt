@@ -4,7 +4,6 @@ pub mod Walked
 pub mod Ordered
 pub mod New
 pub mod Paths
-pub mod Stacked
 pub mod Texts
 pub mod Edges
 pub mod Numbered

@@ -2,46 +2,27 @@
 use Rattle.std.proofs.Common.{◌≡◌, ℕ, suc, ◌+◌, ◌⊎◌, inl, inr, ⊎_elim, List, [], ◌∷◌, ◌++◌, get_or, false, add-one, refl, ap, sym, ◌∙◌, subst, arith, append_assoc}
 use Rattle.std.specs.Prelude.{Contains}
 use Rattle.std.specs.List.{AllByRecursion}
-use Rattle.std.proofs.lemmas.List.Elements.{Contains-append_left, Contains-append_right, Contains-append_cases, Contains-push}
+use Rattle.std.proofs.lemmas.List.Elements.{Contains-append_left, Contains-append_right, Contains-push}
 use Rattle.std.specs.Cmp.{IsTotalOrder}
 use Rattle.std.specs.Ordering.{is_lt, ordering_reverse}
 use Rattle.std.specs.declared.cmp.Ordering.{Ordering}
 use Rattle.std.specs.declared.cmp.Ordering.TheVariants.{Less, Equal, Greater}
 use Rattle.std.specs.List.Sorted.{IsSorted, IsStrictlySortedBy}
 use Rattle.std.proofs.lemmas.List.Sorted.{sorted_far, ranks_by}
+use Rattle.list_lemmas.proofs.Members.{has-none, has-first, has-later, has-cases, each-has, all-from_each}
 use Rattle.call_expand.specs.declared.place.Place.{Place}
 use Rattle.call_expand.specs.Numbers.{AreNew}
-use Rattle.call_expand.proofs.Searched.{only}
-
--- a list has its first element, and those of the rest
-pub has-first : {X : Type 0} (x : X) (xs : List X) → Contains (x ∷ xs) x
-has-first x xs = (0, omega arith, refl)
-
-pub has-rest : {X : Type 0} (x y : X) (xs : List X) → Contains xs y → Contains (x ∷ xs) y
-has-rest x y xs has = Contains-append_right (x ∷ []) xs y has
-
--- a list has its first element, or those of the rest
-pub has-cases : {X : Type 0} (x y : X) (xs : List X) → Contains (x ∷ xs) y → (y ≡ x) ⊎ Contains xs y
-has-cases x y xs has =
-    ⊎_elim
-    (λ (first : Contains (x ∷ []) y). inl (only x y first))
-    (λ (rest : Contains xs y). inr rest)
-    (Contains-append_cases (x ∷ []) xs y has)
-
--- the empty list has none
-pub has-none : {X : Type 0} (x : X) → Contains [] x → ⊥
-has-none x has = omega (arith, has.1)
 
 -- a new one is one of the places
 pub new-listed : (found seen more : List Place) → AreNew seen found more → (place : Place) → Contains more place → Contains found place
 new-listed [] seen more are place has =
     let P : List Place → Type 0 = λ more. Contains more place in absurd (has-none place (subst P are has))
-new-listed (first ∷ found) seen more (inl old) place has = has-rest first place found (new-listed found seen more old.1 place has)
+new-listed (first ∷ found) seen more (inl old) place has = has-later first place found (new-listed found seen more old.1 place has)
 new-listed (first ∷ found) seen more (inr new) place has =
     let P : List Place → Type 0 = λ more. Contains more place in
     ⊎_elim
     (λ (same : place ≡ first). let Q : Place → Type 0 = λ p. Contains (first ∷ found) p in subst Q (sym same) (has-first first found))
-    (λ (rest : Contains new.1 place). has-rest first place found (new-listed found (seen ++ first ∷ []) new.1 new.3 place rest))
+    (λ (rest : Contains new.1 place). has-later first place found (new-listed found (seen ++ first ∷ []) new.1 new.3 place rest))
     (has-cases first place new.1 (subst P new.2 has))
 
 -- and wasn't seen
@@ -88,20 +69,6 @@ behind Greater Less turned not_before apart = absurd (cc)
 behind Greater Equal turned not_before apart = absurd (cc)
 behind Greater Greater turned not_before apart = absurd (cc)
 
--- each of a list, from what holds of each element that it has
-pub all-from_each : {X : Type 0} (P : X → Type 0) (xs : List X) → ((x : X) → Contains xs x → P x) → AllByRecursion P xs
-all-from_each P [] each = tt
-all-from_each P (x ∷ xs) each = (each x (has-first x xs), all-from_each P xs (λ y has. each y (has-rest x y xs has)))
-
--- and back
-pub each-from_all : {X : Type 0} (P : X → Type 0) (xs : List X) → AllByRecursion P xs → (x : X) → Contains xs x → P x
-each-from_all P [] all x has = absurd (has-none x has)
-each-from_all P (first ∷ xs) all x has =
-    ⊎_elim
-    (λ (same : x ≡ first). subst P (sym same) all.0)
-    (λ (rest : Contains xs x). each-from_all P xs all.1 x rest)
-    (has-cases first x xs has)
-
 -- no later element of a list in order is before its first
 pub not_before-first : (order : Place → Place → Ordering) → IsTotalOrder order → (first : Place) (places : List Place)
     → IsSorted order (first ∷ places) → (place : Place) → Contains places place → is_lt (order place first) ≡ false
@@ -137,7 +104,7 @@ new-sorted order Known total same (first ∷ found) seen more known sorted (inr 
     let listed = new-listed found (seen ++ first ∷ []) new.1 new.3 place has in
     behind (order first place) (order place first) (total.antisymm first place) (not_before-first order total first found sorted place listed)
     (λ tie.
-    let one = same first place known.0 (each-from_all Known found known.1 place listed) tie in
+    let one = same first place known.0 (each-has Known found known.1 place listed) tie in
     let Q : Place → Type 0 = λ p. Contains (seen ++ first ∷ []) p in
     new-unseen found (seen ++ first ∷ []) new.1 new.3 place has (subst Q one (Contains-push seen first)))) in
     subst P (sym new.2) (after, rest)

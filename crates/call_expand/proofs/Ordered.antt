@@ -1,5 +1,5 @@
 -- The order of configurations is total, and tells any two of them apart.
-use Rattle.std.proofs.Common.{◌≡◌, ℕ, ◌<◌, ◌≤◌, List, [], ◌∷◌, length, refl, ap, arith}
+use Rattle.std.proofs.Common.{◌≡◌, ℕ, ◌<◌, ◌≤◌, List, [], ◌∷◌, length, refl, ap}
 use denote.Param.Members.{Mut}
 use denote.Ref.{Bor}
 use Rattle.std.specs.Prelude.{flat_map, Bool}
@@ -13,10 +13,10 @@ use Rattle.std.specs.declared.cmp.Ordering.{Ordering}
 use Rattle.std.specs.declared.cmp.Ordering.TheVariants.{Less, Equal, Greater}
 use Rattle.std.proofs.lemmas.Cmp.{on_total, nat_list_cmp_total, ranked, by_ranked}
 use Rattle.std.proofs.lemmas.List.Sorted.{ranks_by}
+use Rattle.frame_stacks.proofs.Compared.{link_from_number}
 use Rattle.riscv_spec.specs.declared.kind.Link.{Link}
-use Rattle.riscv_spec.specs.declared.kind.Link.TheVariants.{X1, X5}
 use Rattle.flow_spec.specs.Configuration.{Configuration, configuration}
-use Rattle.flow_spec.specs.Order.{link_number, frame_numbers, numbers_of, configuration_cmp}
+use Rattle.flow_spec.specs.Order.{frame_numbers, numbers_of, configuration_cmp}
 use Rattle.flow_spec.specs.declared.frame.Frame.{Frame}
 use Rattle.frame_stacks.specs.declared.stacks.StackCell.{StackCell}
 use Rattle.frame_stacks.specs.Stacks.{AreCells, frames_of}
@@ -57,13 +57,6 @@ same_numbers (x ∷ xs) (y ∷ ys) equal =
 abbrev frame : ℕ → Link → ℕ → Frame
 frame back link callee = record { back = back; link = link; callee = callee }
 
--- the registers have different numbers
-link_number-apart : (a b : Link) → link_number a ≡ link_number b → a ≡ b
-link_number-apart X1 X1 same = refl
-link_number-apart X1 X5 same = absurd (omega arith)
-link_number-apart X5 X1 same = absurd (omega arith)
-link_number-apart X5 X5 same = refl
-
 -- frames with the same parts are the same
 frame-parts : (b c : ℕ) (k l : Link) (s t : ℕ) → b ≡ c → k ≡ l → s ≡ t → frame b k s ≡ frame c l t
 frame-parts b c k l s t back link callee = cc
@@ -75,7 +68,7 @@ same_frames [] (g ∷ gs) same = absurd (cc)
 same_frames (f ∷ fs) [] same = absurd (cc)
 same_frames (f ∷ fs) (g ∷ gs) same =
     let back : f.back ≡ g.back = cc in
-    let link : f.link ≡ g.link = link_number-apart f.link g.link (cc) in
+    let link : f.link ≡ g.link = link_from_number f.link g.link (cc) in
     let callee : f.callee ≡ g.callee = cc in
     let rest : flat_map frame_numbers fs ≡ flat_map frame_numbers gs = cc in
     let first : f ≡ g = frame-parts f.back g.back f.link g.link f.callee g.callee back link callee in

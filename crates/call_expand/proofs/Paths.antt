@@ -1,10 +1,10 @@
 -- The paths of the graph are the paths of the configurations, member by member and with the same letters.
-use Rattle.std.proofs.Common.{◌≡◌, ℕ, zero, suc, ◌<◌, ◌⊎◌, inl, inr, ⊎_elim, List, [], ◌∷◌, ◌++◌, length, map, Option, Some, None, refl, ap, sym, ◌∙◌, subst, arith, codes}
+use Rattle.std.proofs.Common.{◌≡◌, ℕ, ◌<◌, ◌⊎◌, inl, inr, ⊎_elim, List, [], ◌∷◌, ◌++◌, length, map, Option, Some, None, refl, ap, sym, ◌∙◌, subst, arith, codes}
 use Rattle.std.specs.Prelude.{slice_get, Ok, Contains}
 use Rattle.std.specs.Result.{IsOkAnd}
 use Rattle.std.specs.Option.{option_to_list}
-use Rattle.std.proofs.lemmas.List.{length-map, get_or-map}
 use Rattle.std.proofs.lemmas.Option.{slice_get_within, get_or_from_slice_get}
+use Rattle.list_lemmas.proofs.Members.{found-inside, has-map, from-map}
 use Rattle.transition_spec.specs.Path.{IsPath, IsSuccessor, IsLetter, HasChoices}
 use Rattle.flow_spec.specs.Acceptance.{Step}
 use Rattle.flow_spec.specs.Configuration.{Configuration, start_of}
@@ -19,25 +19,6 @@ use Rattle.call_expand.proofs.Zipped.{zip-length, zip-at}
 -- the numbers of a node's successors
 abbrev pub links : Option ℕ → Option ℕ → List ℕ
 links first second = option_to_list first ++ option_to_list second
-
--- what a list has, and what a function gives of it
-pub Contains-map : {X Y : Type 0} (f : X → Y) (xs : List X) (x : X) → Contains xs x → Contains (map f xs) (f x)
-Contains-map f xs x has =
-    (has.0, omega (arith, has.1, length-map xs f), get_or-map f xs has.0 x (f x) has.1 ∙ ap f has.2)
-
--- what a function gives of a list is given of one of its elements
-pub from-map : {X Y : Type 0} (f : X → Y) (xs : List X) (y : Y) → Contains (map f xs) y → (x : X) × Contains xs x × (f x ≡ y)
-from-map f [] y has = absurd (omega (arith, has.1))
-from-map f (x ∷ xs) y (zero, below, is) = (x, (0, omega arith, refl), is)
-from-map f (x ∷ xs) y (suc k, below, is) =
-    let rest = from-map f xs y (k, omega arith, is) in
-    (rest.0, (suc rest.1.0, omega (arith, rest.1.1), rest.1.2), rest.2)
-
--- the element at a place within a list
-pub element : {X : Type 0} (xs : List X) (i : ℕ) → i < length xs → (x : X) × (slice_get xs i ≡ Some x)
-element [] i below = absurd (omega arith)
-element (x ∷ xs) zero below = (x, refl)
-element (x ∷ xs) (suc i) below = element xs i (omega arith)
 
 -- the successors of a node that is there
 listed : (o : Option Node) (m : ℕ) → IsOkAnd (successors o) (λ s. Contains s m)
@@ -74,13 +55,13 @@ module _ (step : Step) (entry : ℕ) (configurations : List Configuration) (node
   follow_to n m follows =
       let from = listed (slice_get nodes n) m follows in
       let P : Successors → Type 0 = λ r. IsOkAnd r (λ s. Contains s (numbered configurations m)) in
-      subst P (sym (node_at n from.0 from.1).goes) (Contains-map (numbered configurations) (links from.0.first from.0.second) m from.2)
+      subst P (sym (node_at n from.0 from.1).goes) (has-map (numbered configurations) (links from.0.first from.0.second) m from.2)
 
   -- and a move of the configurations is one of the graph
   follow_from : (n : ℕ) (d : Configuration) → n < length nodes → IsSuccessor step (numbered configurations n) d
       → (m : ℕ) × IsSuccessor (graph_step nodes) n m × (numbered configurations m ≡ d)
   follow_from n d below follows =
-      let node = element nodes n below in
+      let node = found-inside nodes n below in
       let P : Successors → Type 0 = λ r. IsOkAnd r (λ s. Contains s d) in
       let has = from-map (numbered configurations) (links node.0.first node.0.second) d (subst P (node_at n node.0 node.1).goes follows) in
       let Q : Option Node → Type 0 = λ o. IsOkAnd (successors o) (λ s. Contains s has.0) in
@@ -111,8 +92,8 @@ module _ (step : Step) (entry : ℕ) (configurations : List Configuration) (node
   path_from (d ∷ c ∷ earlier) path = path_more d c earlier path.0 (path_from (c ∷ earlier) path.1)
 
   -- a node fetches the address of its configuration
-  address_at : (n : ℕ) → n < length nodes → address_of nodes n ≡ (numbered configurations n).at
-  address_at n below = let node = element nodes n below in ap address node.1 ∙ (node_at n node.0 node.1).at
+  pub address_at : (n : ℕ) → n < length nodes → address_of nodes n ≡ (numbered configurations n).at
+  address_at n below = let node = found-inside nodes n below in ap address node.1 ∙ (node_at n node.0 node.1).at
 
   -- the addresses of the members are those of their configurations
   pub path_addresses : (members : List ℕ) → IsPath (graph_step nodes) 0 members
@@ -154,7 +135,7 @@ module _ (step : Step) (entry : ℕ) (configurations : List Configuration) (node
   move_to : (n m : ℕ) (letter : List ℕ) → n < length nodes → IsLetter (graph_step nodes n) m letter
       → IsLetter (step (numbered configurations n)) (numbered configurations m) letter
   move_to n m letter below has =
-      let node = element nodes n below in
+      let node = found-inside nodes n below in
       let P : Option Node → Type 0 = λ o. IsLetter (successors o) m letter in
       let Q : Successors → Type 0 = λ r. IsLetter r (numbered configurations m) letter in
       subst Q (sym (node_at n node.0 node.1).goes) (letter_to node.0.first node.0.second m letter (subst P node.1 has))
@@ -163,7 +144,7 @@ module _ (step : Step) (entry : ℕ) (configurations : List Configuration) (node
   move_from : (n m : ℕ) (letter : List ℕ) → n < length nodes → m < length nodes
       → IsLetter (step (numbered configurations n)) (numbered configurations m) letter → IsLetter (graph_step nodes n) m letter
   move_from n m letter below within has =
-      let node = element nodes n below in
+      let node = found-inside nodes n below in
       let P : Option Node → Type 0 = λ o. IsLetter (successors o) m letter in
       let Q : Successors → Type 0 = λ r. IsLetter r (numbered configurations m) letter in
       let fit = λ (a : ℕ) (leads : LeadsTo node.0 a).

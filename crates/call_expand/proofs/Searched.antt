@@ -1,18 +1,14 @@
 -- A search layer by layer finds exactly the layers, over any step function.
-use Rattle.std.proofs.Common.{◌≡◌, ℕ, zero, suc, ◌+◌, ◌≤◌, inl, inr, ⊎_elim, List, [], ◌∷◌, ◌++◌, length, refl, sym, subst, arith, lit<, lit≤}
+use Rattle.std.proofs.Common.{◌≡◌, ℕ, ◌+◌, ◌≤◌, inl, inr, ⊎_elim, List, [], ◌∷◌, ◌++◌, length, refl, sym, subst, arith, lit<, lit≤}
 use Rattle.std.specs.Prelude.{Contains, Result}
 use Rattle.std.specs.List.Sorted.{IsStrictlySortedBy}
 use Rattle.std.specs.declared.cmp.Ordering.{Ordering}
 use Rattle.std.proofs.Math.Nat.{eq-or-lt_of_le}
 use Rattle.std.proofs.lemmas.List.Elements.{Contains-append_left, Contains-append_cases}
+use Rattle.list_lemmas.proofs.Members.{has-only}
 use Rattle.transition_spec.specs.Path.{IsPath, IsSuccessor}
 use Rattle.transition_spec.specs.Layer.{IsReachedIn, IsLayer, AreLayersFrom}
 use Rattle.call_expand.specs.Search.{IsSearched, AreNext}
-
--- a list of one member has no other
-pub only : {C : Type 0} (d c : C) → Contains (d ∷ []) c → c ≡ d
-only d c (zero, below, is) = sym is
-only d c (suc k, below, is) = absurd (omega arith)
 
 module _ {C F : Type 0} (step : C → Result (List C) F) (start : C) (order : C → C → Ordering) where
   -- a path of one member ends at the start
@@ -33,8 +29,8 @@ module _ {C F : Type 0} (step : C → Result (List C) F) (start : C) (order : C 
   -- the start alone is searched
   pub begun : IsSearched step start 0 [] (start ∷ [])
   begun = record {
-    reached = λ c has. (0, lit≤ tt, ([], refl, only start c has));
-    last_reached = λ c has. ([], refl, only start c has);
+    reached = λ c has. (0, lit≤ tt, ([], refl, has-only start c has));
+    last_reached = λ c has. ([], refl, has-only start c has);
     covered = λ m c within reached.
         let same : c ≡ start = short reached.0 c (omega (arith, reached.1)) reached.2 in
         (0, lit< tt, sym same);
@@ -47,7 +43,7 @@ module _ {C F : Type 0} (step : C → Result (List C) F) (start : C) (order : C 
   first_layer = record {
     sorted = (tt, tt);
     members = λ c. (
-      λ has. record { reached = ([], refl, only start c has); no_sooner = λ m sooner reached. absurd (omega arith) },
+      λ has. record { reached = ([], refl, has-only start c has); no_sooner = λ m sooner reached. absurd (omega arith) },
       λ layer. (0, lit< tt, sym (short layer.reached.0 c layer.reached.1 layer.reached.2)),
     );
   }

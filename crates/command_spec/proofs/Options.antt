@@ -1,27 +1,13 @@
 -- Options and the words that they are written with.
-use Rattle.std.proofs.Common.{◌≡◌, ◌⊎◌, ℕ, zero, suc, List, [], ◌∷◌, ◌++◌, refl, sym, ap, subst, ◌∙◌, arith, inl, inr, Some, None}
+use Rattle.std.proofs.Common.{◌≡◌, ◌⊎◌, ℕ, zero, List, [], ◌∷◌, ◌++◌, refl, sym, ap, subst, ◌∙◌, arith, inl, inr, Some, None}
 use Rattle.std.specs.Prelude.{Bool, true, false, not, ◌&&◌, ◌||◌, cond, Option, Contains, bytes_eq, IsTrue, ◌↔◌}
 use Rattle.std.specs.List.{list_any}
 use Rattle.std.specs.Option.{option_to_list}
 use Rattle.std.proofs.lemmas.Bool.{and_parts, and_from, or_cases, or_left, or_right, not-true, not_from_false, false_from_ne_true, cases_Bool, cond-true, cond-false, true≢false}
 use Rattle.std.proofs.lemmas.Slice.Eq.{bytes_eq-Decides}
+use Rattle.list_lemmas.proofs.Members.{has-none, has-later, has-cases}
 use Rattle.command_spec.specs.Plain.{is_flag, is_new, is_plain, has_option, value_of}
 use Rattle.command_spec.specs.Options.{Given, given, AreOptions, names_in, words_of}
-
--- ---- members of a list
-
-none_in : {X : Type 0} (x : X) → Contains [] x → ⊥
-none_in x (k, below, is) = omega (arith, below)
-
-pub first_in : {X : Type 0} (x : X) (xs : List X) → Contains (x ∷ xs) x
-first_in x xs = (zero, omega arith, refl)
-
-pub later_in : {X : Type 0} (x y : X) (xs : List X) → Contains xs x → Contains (y ∷ xs) x
-later_in x y xs (k, below, is) = (suc k, omega (arith, below), is)
-
-pub first_or_later : {X : Type 0} (x y : X) (xs : List X) → Contains (y ∷ xs) x → (y ≡ x) ⊎ Contains xs x
-first_or_later x y xs (zero, below, is) = inl is
-first_or_later x y xs (suc k, below, is) = inr (k, omega (arith, below), is)
 
 equal : (xs ys : List ℕ) → bytes_eq xs ys ≡ true → xs ≡ ys
 equal xs ys is = (bytes_eq-Decides xs ys).0 is
@@ -33,13 +19,13 @@ among : (names : List (List ℕ)) (name : List ℕ) → list_any (bytes_eq name)
 among [] name any = absurd (cc any)
 among (first ∷ names) name any = elim (or_cases (bytes_eq name first) (list_any (bytes_eq name) names) any) [
   | inl is ↦ (zero, omega arith, sym (equal name first is))
-  | inr is ↦ later_in name first names (among names name is)
+  | inr is ↦ has-later first name names (among names name is)
 ]
 
 pub among_from : (names : List (List ℕ)) (name : List ℕ) → Contains names name → list_any (bytes_eq name) names ≡ true
-among_from [] name has = absurd (none_in name has)
-among_from (first ∷ names) name has = elim (first_or_later name first names has) [
-  | inl is ↦ or_left (bytes_eq name first) _ (same name first (sym is))
+among_from [] name has = absurd (has-none name has)
+among_from (first ∷ names) name has = elim (has-cases first name names has) [
+  | inl is ↦ or_left (bytes_eq name first) _ (same name first is)
   | inr later ↦ or_right (bytes_eq name first) _ (among_from names name later)
 ]
 
@@ -81,15 +67,15 @@ has_to names [] name are has = absurd (cc has)
 has_to names (option ∷ later) name are has =
     elim (or_cases (bytes_eq option.name name) (has_option name (words_of later)) (sym (has_first name option.name option.value (words_of later) are.0.1) ∙ has)) [
       | inl is ↦ (zero, omega arith, equal option.name name is)
-      | inr is ↦ later_in name option.name (names_in later) (has_to names later name are.2 is)
+      | inr is ↦ has-later option.name name (names_in later) (has_to names later name are.2 is)
     ]
 
 pub has_from : (names : List (List ℕ)) (options : List Given) (name : List ℕ) → AreOptions names options
     → Contains (names_in options) name → has_option name (words_of options) ≡ true
-has_from names [] name are has = absurd (none_in name has)
+has_from names [] name are has = absurd (has-none name has)
 has_from names (option ∷ later) name are has =
-    has_first name option.name option.value (words_of later) are.0.1 ∙ elim (first_or_later name option.name (names_in later) has) [
-      | inl is ↦ or_left (bytes_eq option.name name) _ (same option.name name is)
+    has_first name option.name option.value (words_of later) are.0.1 ∙ elim (has-cases option.name name (names_in later) has) [
+      | inl is ↦ or_left (bytes_eq option.name name) _ (same option.name name (sym is))
       | inr behind ↦ or_right (bytes_eq option.name name) _ (has_from names later name are.2 behind)
     ]
 
@@ -193,14 +179,14 @@ value_to names (option ∷ later) name value are found =
     elim (picked option.name option.value name (value_of name (words_of later)) value
     (sym (value_first name option.name option.value (words_of later) are.0.1) ∙ found)) [
       | inl own ↦ (zero, omega arith, given_is option name value own.0 own.1)
-      | inr rest ↦ later_in _ option later (value_to names later name value are.2 rest)
+      | inr rest ↦ has-later option _ later (value_to names later name value are.2 rest)
     ]
 
 name_in : (options : List Given) (option : Given) → Contains options option → Contains (names_in options) option.name
-name_in [] option has = absurd (none_in option has)
-name_in (first ∷ options) option has = elim (first_or_later option first options has) [
-  | inl is ↦ (zero, omega arith, ap (λ (o : Given). o.name) is)
-  | inr behind ↦ later_in option.name first.name (names_in options) (name_in options option behind)
+name_in [] option has = absurd (has-none option has)
+name_in (first ∷ options) option has = elim (has-cases first option options has) [
+  | inl is ↦ (zero, omega arith, sym (ap (λ (o : Given). o.name) is))
+  | inr behind ↦ has-later first.name option.name (names_in options) (name_in options option behind)
 ]
 
 pick_own : (first : List ℕ) (own : Option (List ℕ)) (name : List ℕ) (rest : Option (List ℕ)) (value : List ℕ) → first ≡ name → own ≡ Some value
@@ -215,10 +201,10 @@ pick_later first (Some other) name rest apart =
 
 pub value_from : (names : List (List ℕ)) (options : List Given) (name value : List ℕ) → AreOptions names options
     → Contains options (given name value) → value_of name (words_of options) ≡ Some value
-value_from names [] name value are has = absurd (none_in _ has)
+value_from names [] name value are has = absurd (has-none _ has)
 value_from names (option ∷ later) name value are has =
-    value_first name option.name option.value (words_of later) are.0.1 ∙ elim (first_or_later _ option later has) [
-      | inl is ↦ pick_own option.name option.value name _ value (ap (λ (o : Given). o.name) is) (ap (λ (o : Given). o.value) is)
+    value_first name option.name option.value (words_of later) are.0.1 ∙ elim (has-cases option _ later has) [
+      | inl is ↦ pick_own option.name option.value name _ value (ap (λ (o : Given). o.name) (sym is)) (ap (λ (o : Given). o.value) (sym is))
       | inr behind ↦
           let apart : option.name ≡ name → ⊥ = λ is. are.1 (subst (λ (n : List ℕ). Contains (names_in later) n) (sym is) (name_in later _ behind)) in
           pick_later option.name option.value name _ apart ∙ value_from names later name value are.2 behind

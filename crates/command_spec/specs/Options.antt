@@ -17,6 +17,7 @@ abbrev pub words_of : List Given → List (List ℕ)
 words_of [] = []
 words_of (option ∷ later) = option.name ∷ (option_to_list option.value ++ words_of later)
 
+-- the names of the options, in their order
 abbrev pub names_in : List Given → List (List ℕ)
 names_in options = map (λ (option : Given). option.name) options
 

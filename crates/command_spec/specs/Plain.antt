@@ -27,6 +27,7 @@ has_option name (first ∷ next ∷ words) =
 abbrev pub is_new : List (List ℕ) → List ℕ → List (List ℕ) → Bool
 is_new names name later = list_any (bytes_eq name) names && not (has_option name later)
 
+-- words that are options of the command, each with its value and none of them twice
 abbrev pub is_plain : List (List ℕ) → List (List ℕ) → Bool
 is_plain names [] = true
 is_plain names (last ∷ []) = is_flag last && is_new names last []

@@ -1,45 +1,24 @@
 -- The least and the most younger sets before a node, and the ways that end there.
-use Rattle.std.proofs.Common.{◌≡◌, ◌≢◌, ℕ, zero, suc, ◌+◌, ◌<◌, ◌≤◌, ◌↔◌, inl, inr, true, false, List, [], ◌∷◌, length, map, Option, Some, None, option_map, IsSome, refl, sym, ap, subst, ◌∙◌, arith}
+use Rattle.std.proofs.Common.{◌≡◌, ◌≢◌, ℕ, zero, suc, ◌+◌, ◌<◌, ◌↔◌, inl, inr, true, false, List, [], ◌∷◌, length, map, Option, Some, None, option_map, IsSome, refl, sym, ap, subst, ◌∙◌, arith}
 use Rattle.std.proofs.lemmas.Bool.{cases_lt, both_ways, ltb-true, lt-ltb}
-use Rattle.std.proofs.lemmas.Option.{slice_get-map, slice_get_within, get_or_from_slice_get, same_Some}
+use Rattle.std.proofs.lemmas.Option.{slice_get-map, same_Some}
 use Rattle.std.specs.List.{Contains}
 use Rattle.std.specs.List.Sorted.{IsStrictlyIncreasing}
 use Rattle.std.specs.Prelude.{slice_get}
+use Rattle.list_lemmas.proofs.Members.{has-found}
 use Rattle.transition_spec.specs.declared.way.Way.{Way}
-use Rattle.set_list.specs.SetList.{IsSubset}
 use Rattle.set_list.specs.Rising.{Contains-front}
 use Rattle.focus_spec.specs.Younger.{is_small, fetch_at}
 use Rattle.focus_spec.specs.Focus.{younger_after, Leaves, MayBeSmall, MayBeLarge, IsLeastYounger, AreLeast, AreMost}
 use Rattle.focus_spec.specs.Fate.{AllEnd, NamesEnd}
-use Rattle.focus_spec.specs.RisingSets.{rising-tail, above_first, not_below_first, behind_first, same_from_subsets}
+use Rattle.set_list.specs.RisingSets.{subset-same, same_from_subsets}
 use Rattle.set_view.specs.View.{View}
 use Rattle.focus_plain.specs.declared.settling.Fate.{Fate}
 use Rattle.focus_plain.specs.declared.settling.PlainPlace.{PlainPlace}
 use Rattle.focus_plain.specs.Judged.{IsEnd, AreFetchers}
 use Rattle.focus_plain.specs.Settled.{IsFate, IsPlainPlace, IsAlike}
-use Rattle.focus_plain.proofs.Order.{IsRising, younger-rising, length-within}
+use Rattle.focus_plain.proofs.Order.{IsRising, younger-rising}
 use Rattle.focus_plain.proofs.Fates.{HitsWhereSmall}
-
--- a set within another that has no more numbers is that set
-same-within : (small large : List ℕ) → IsStrictlyIncreasing small → IsStrictlyIncreasing large → IsSubset small large → length large ≤ length small → small ≡ large
-same-within [] [] up large_up within long = refl
-same-within [] (y ∷ ys) up large_up within long = absurd (omega arith)
-same-within (x ∷ xs) [] up large_up within long = let there = within x ((Contains-front x xs x).1 (inr refl)) in absurd (omega (arith, there.1))
-same-within (x ∷ xs) (y ∷ ys) up large_up within long =
-    let least = not_below_first y ys x large_up (within x ((Contains-front x xs x).1 (inr refl))) in
-    elim (cases_lt y x) [
-      | inl above ↦
-          let short = length-within (x ∷ xs) ys up (rising-tail y ys large_up) (λ z there.
-          let reached = not_below_first x xs z up there in
-          behind_first y ys z (omega arith) (within z there)) in
-          absurd (omega (arith, short, long))
-      | inr not_above ↦
-          let first : x ≡ y = omega arith in
-          let rest : xs ≡ ys = same-within xs ys (rising-tail x xs up) (rising-tail y ys large_up) (λ z there.
-          let reached = above_first x xs z up there in
-          behind_first y ys z (omega arith) (within z ((Contains-front x xs z).1 (inl there)))) (omega arith) in
-          cc (first, rest)
-    ]
 
 -- what is small is there
 small-set : (ways : ℕ) (younger : Option (List ℕ)) → is_small ways younger ≡ true → (set : List ℕ) × (younger ≡ Some set) × (length set < ways)
@@ -58,7 +37,7 @@ no_least view block n none (suc bound) set below left small =
       small = small;
       least = λ other there within. elim (cases_lt (length other) (length set)) [
         | inl shorter ↦ absurd (no_least view block n none bound other (omega arith) there (omega arith))
-        | inr as_long ↦ same-within other set (rising other there) (rising set left) within as_long
+        | inr as_long ↦ subset-same other set (rising other there) (rising set left) within as_long
       ];
     })
 
@@ -119,10 +98,6 @@ fetchers_same : (fetches : List (Option ℕ)) (block : ℕ) (one two : List ℕ)
 fetchers_same fetches block one two first second =
     same_from_subsets one two first.rising second.rising (λ n there. (second.members n).1 ((first.members n).0 there)) (λ n there. (first.members n).1 ((second.members n).0 there))
 
--- what stands at a place is in the list
-pub slice-contains : {X : Type 0} (xs : List X) (k : ℕ) (x : X) → slice_get xs k ≡ Some x → Contains xs x
-slice-contains xs k x is = (k, slice_get_within xs k x is, get_or_from_slice_get xs k x x is)
-
 -- what is settled of one node is alike
 pub all_alike : (view : View) (block : ℕ) → HitsWhereSmall view block → (places : List PlainPlace) (fates : List Fate)
     → AreFetchers view.fetches block (map (λ place. place.node) places) → AreFetchers view.fetches block (map (λ fate. fate.node) fates)
@@ -132,7 +107,7 @@ all_alike view block law places fates places_are fates_are k place fate place_at
     let fate_node : slice_get (map (λ (f : Fate). f.node) fates) k ≡ Some fate.node = slice_get-map (λ (f : Fate). f.node) fates k ∙ ap (option_map (λ (f : Fate). f.node)) fate_at in
     let lists = fetchers_same view.fetches block (map (λ (p : PlainPlace). p.node) places) (map (λ (f : Fate). f.node) fates) places_are fates_are in
     let same : fate.node ≡ place.node = same_Some fate.node place.node (sym fate_node ∙ sym (ap (λ (ns : List ℕ). slice_get ns k) lists) ∙ place_node) in
-    let fetches = (places_are.members place.node).0 (slice-contains (map (λ (p : PlainPlace). p.node) places) k place.node place_node) in
+    let fetches = (places_are.members place.node).0 (has-found (map (λ (p : PlainPlace). p.node) places) k place.node place_node) in
     record {
       same = same;
       hit = hit_alike view block law place.node fetches fate.hit place.least (subst (λ (m : ℕ). IsEnd view m true fate.hit) same fate_is.hit) place_is.least;

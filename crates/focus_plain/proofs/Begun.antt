@@ -9,7 +9,7 @@ use Rattle.transition_spec.specs.Path.{IsSuccessor}
 use Rattle.path_model.specs.Graph.{graph_step}
 use Rattle.path_trail.specs.Trail.{TrailEntry, node_at, IsTrail}
 use Rattle.set_view.specs.View.{View}
-use Rattle.focus_spec.specs.RisingSets.{rising-empty}
+use Rattle.set_list.specs.RisingSets.{rising-empty}
 use Rattle.focus_plain.specs.declared.search.Entry.{Entry}
 use Rattle.focus_plain.specs.declared.search.Search.{Search}
 use Rattle.focus_plain.specs.Cut.{behind}

@@ -7,7 +7,7 @@ use Rattle.std.proofs.lemmas.Option.{none-some}
 use Rattle.std.specs.List.{Contains}
 use Rattle.std.specs.List.Sorted.{IsStrictlyIncreasing}
 use Rattle.focus_spec.specs.Younger.{fetch_at}
-use Rattle.focus_spec.specs.RisingSets.{rising-empty}
+use Rattle.set_list.specs.RisingSets.{rising-empty}
 use Rattle.focus_plain.specs.Judged.{AreFetchers}
 
 -- the nodes are those below the count that fetch the block, rising

@@ -3,7 +3,6 @@ pub mod Reached
 pub mod Course
 pub mod Table
 pub mod Links
-pub mod Edges
 pub mod Followed
 pub mod Spread
 pub mod Equals

@@ -5,10 +5,9 @@ use Rattle.std.proofs.lemmas.Bool.{cases_Bool, cases_lt}
 use Rattle.std.proofs.lemmas.Bool.Decides.{nat_tests}
 use Rattle.std.specs.List.Sorted.{IsStrictlyIncreasing}
 use Rattle.set_list.specs.SetList.{IsSubset}
-use Rattle.set_list.specs.Rising.{Contains-front}
 use Rattle.focus_spec.specs.Younger.{with_number, after, younger, is_small, fetch_at}
 use Rattle.focus_spec.specs.Focus.{younger_after}
-use Rattle.focus_spec.specs.RisingSets.{rising-empty, rising-tail, above_first, not_below_first, behind_first}
+use Rattle.set_list.specs.RisingSets.{rising-empty, subset-short}
 use Rattle.focus_spec.specs.WithNumber.{Contains-with_number, rising-with_number}
 use Rattle.set_view.specs.View.{View}
 use Rattle.focus_plain.specs.Cut.{cut, IsBelow, left_by, behind}
@@ -29,25 +28,6 @@ below_trans one two None below on = tt
 below_trans one None (Some three) below on = absurd on
 below_trans None (Some two) (Some three) below on = absurd below
 below_trans (Some one) (Some two) (Some three) below on = λ x there. on x (below x there)
-
--- a set within another has no more numbers
-pub length-within : (small large : List ℕ) → IsStrictlyIncreasing small → IsStrictlyIncreasing large → IsSubset small large → length small ≤ length large
-length-within [] large up large_up within = omega arith
-length-within (x ∷ xs) [] up large_up within = let there = within x ((Contains-front x xs x).1 (inr refl)) in absurd (omega (arith, there.1))
-length-within (x ∷ xs) (y ∷ ys) up large_up within =
-    let least = not_below_first y ys x large_up (within x ((Contains-front x xs x).1 (inr refl))) in
-    elim (cases_lt y x) [
-      | inl above ↦
-          let rest = length-within (x ∷ xs) ys up (rising-tail y ys large_up) (λ z there.
-          let reached = not_below_first x xs z up there in
-          behind_first y ys z (omega arith) (within z there)) in
-          omega (arith, rest)
-      | inr not_above ↦
-          let rest = length-within xs ys (rising-tail x xs up) (rising-tail y ys large_up) (λ z there.
-          let reached = above_first x xs z up there in
-          behind_first y ys z (omega arith) (within z ((Contains-front x xs z).1 (inl there)))) in
-          omega (arith, rest)
-    ]
 
 -- a small set is kept, and a large one is not
 pub cut-small : (ways : ℕ) (set : List ℕ) → length set < ways → cut ways (Some set) ≡ Some set
@@ -78,7 +58,7 @@ cut-below ways one None rising two_rising below = tt
 cut-below ways None (Some two) rising two_rising below = absurd below
 cut-below ways (Some one) (Some two) rising two_rising below = elim (cases_lt (length two) ways) [
   | inl small ↦
-      let short = length-within one two rising two_rising below in
+      let short = subset-short one two rising two_rising below in
       subst (IsBelow (cut ways (Some one))) (sym (cut-small ways two small))
       (subst (λ (younger : Option (List ℕ)). IsBelow younger (Some two)) (sym (cut-small ways one (omega arith))) below)
   | inr large ↦ subst (IsBelow (cut ways (Some one))) (sym (cut-large ways two large)) tt
@@ -135,7 +115,7 @@ behind-below view block n one two rising two_rising below =
 
 -- one number more doesn't make a set shorter
 longer : (x : ℕ) (set : List ℕ) → IsStrictlyIncreasing set → length set ≤ length (with_number x set)
-longer x set rising = length-within set (with_number x set) rising (rising-with_number x set rising) (λ y there. (Contains-with_number x set y).1 (inl there))
+longer x set rising = subset-short set (with_number x set) rising (rising-with_number x set rising) (λ y there. (Contains-with_number x set y).1 (inl there))
 
 -- what is cut off before a fetch is cut off behind it
 cut-after : (ways block : ℕ) (fetch : Option ℕ) (younger : Option (List ℕ)) → IsRising younger

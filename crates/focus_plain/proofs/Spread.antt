@@ -3,6 +3,7 @@ use Rattle.std.proofs.Common.{◌≡◌, ℕ, ◌<◌, inl, inr, List, length, g
 use Rattle.std.proofs.lemmas.List.{get_or_append_left}
 use Rattle.std.proofs.lemmas.Option.{slice_get-get_or}
 use Rattle.std.specs.Prelude.{slice_get}
+use Rattle.path_model.proofs.Edges.{successor-from_node, leads-from_successor}
 use Rattle.transition_spec.specs.Path.{IsSuccessor}
 use Rattle.path_model.specs.declared.graph.Node.{Node}
 use Rattle.path_model.specs.Graph.{graph_step}
@@ -19,7 +20,6 @@ use Rattle.focus_plain.proofs.Order.{cut-cut}
 use Rattle.focus_plain.proofs.Course.{node_at-front}
 use Rattle.focus_plain.proofs.Table.{reached-longer}
 use Rattle.focus_plain.proofs.Links.{entry_read, node-read, seen-read, length-trail, length-seen}
-use Rattle.focus_plain.proofs.Edges.{edge_first, edge_second, edge_cases}
 use Rattle.focus_plain.proofs.Followed.{IsStepped, stepped, extends_trans, between_extended}
 
 -- what an entry has seen is cut already
@@ -88,8 +88,8 @@ module _ (view : View) (block : ℕ) (old : Search) (is : IsSearch view block ol
       pub first_stepped : IsStepped view block old middle node.first (reached_set old.sets.items reached)
       first_stepped =
           stepped view block old middle index node.first (reached_set old.sets.items reached) is inside
-          (λ m at. edge_first view.nodes (node_at (trail_of old.entries.items) index) m node node_found at)
-          (λ m at. omega (arith, ends m (edge_first view.nodes (node_at (trail_of old.entries.items) index) m node node_found at), is.one_each))
+          (λ m at. successor-from_node view.nodes (node_at (trail_of old.entries.items) index) m node node_found (inl at))
+          (λ m at. omega (arith, ends m (successor-from_node view.nodes (node_at (trail_of old.entries.items) index) m node node_found (inl at)), is.one_each))
           value_is first
 
       -- the entry is there still
@@ -123,7 +123,7 @@ module _ (view : View) (block : ℕ) (old : Search) (is : IsSearch view block ol
 
       -- the second edge
       second_edge : (m : ℕ) → node.second ≡ Some m → IsSuccessor (graph_step view.nodes) (node_at (trail_of old.entries.items) index) m
-      second_edge m at = edge_second view.nodes (node_at (trail_of old.entries.items) index) m node node_found at
+      second_edge m at = successor-from_node view.nodes (node_at (trail_of old.entries.items) index) m node node_found (inr at)
 
       module _ (new : Search) (second : IsFollowed middle new index node.second (reached_set middle.sets.items reached)) where
         -- the second edge is followed from there
@@ -146,7 +146,7 @@ module _ (view : View) (block : ℕ) (old : Search) (is : IsSearch view block ol
         pub spread_between : (m : ℕ) → IsSuccessor (graph_step view.nodes) (node_at (trail_of old.entries.items) index) m
             → IsBetween (trail_of new.entries.items) (seen_of new.sets.items new.entries.items) m younger
         spread_between m edge =
-            elim (edge_cases view.nodes (node_at (trail_of old.entries.items) index) m node node_found edge) [
+            elim (leads-from_successor view.nodes (node_at (trail_of old.entries.items) index) m node node_found edge) [
               | inl at ↦
                   between_extended view block middle new m younger first_stepped.search second_stepped.extends
                   (subst (IsBetween (trail_of middle.entries.items) (seen_of middle.sets.items middle.entries.items) m) value_is (first_stepped.between m at))

@@ -1,8 +1,5 @@
 // Where a search found hits and misses.
 ghost use Rattle.std.specs.Prelude.{◌≡◌, ◌<◌, ◌^◌, ℕ, length, Some, IfOk};
-ghost use Rattle.transition_spec.specs.Path.{IsPath};
-ghost use Rattle.transition_spec.specs.Named.{Names};
-ghost use Rattle.path_model.specs.Graph.{graph_step};
 ghost use Rattle.path_trail.specs.Trail.{node_at, IsTrail};
 ghost use Rattle.focus_plain.specs.Entries.{trail_of};
 ghost use Rattle.focus_plain.specs.Ends.{AreEnds, IsNoted, IsFound};

@@ -1,5 +1,5 @@
 // The search: entries are made and worked off in order, each for what one path leaves of the block's younger set.
-ghost use Rattle.std.specs.Prelude.{◌≡◌, ◌<◌, ◌≤◌, ◌^◌, ℕ, [], ◌∷◌, length, slice_set, slice_index_or, replicate, Some, None, IsTrue, IfOk, OnOk};
+ghost use Rattle.std.specs.Prelude.{◌≡◌, ◌<◌, ◌≤◌, ◌^◌, ℕ, [], ◌∷◌, length, slice_set, replicate, Some, None, IsTrue, IfOk, OnOk};
 ghost use Rattle.transition_spec.specs.Path.{IsSuccessor};
 ghost use Rattle.path_model.specs.Graph.{graph_step};
 ghost use Rattle.path_trail.specs.Trail.{node_at};

@@ -2,7 +2,7 @@
 ghost use Rattle.std.specs.Prelude.{◌≡◌, ◌<◌, length, map, [], ◌∷◌, ◌++◌, if◌then◌else◌, Some, true, false, IfOk, OnOk};
 ghost use Rattle.std.specs.List.{All};
 ghost use Rattle.focus_spec.specs.Younger.{fetch_at};
-ghost use Rattle.set_view.specs.View.{View, IsView};
+ghost use Rattle.set_view.specs.View.{IsView};
 ghost use Rattle.focus_values.specs.Exact.{AreExact};
 ghost use Rattle.focus_plain.specs.Ends.{IsFound};
 ghost use Rattle.focus_plain.specs.Judged.{AreFetchers, IsEnd};

@@ -1,4 +1,4 @@
 mod Recency
 mod Stack
-mod Renamed
+pub mod Renamed
 mod Since

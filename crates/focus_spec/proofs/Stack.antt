@@ -10,7 +10,7 @@ use Rattle.cache_spec.specs.Geometry.{Geometry, block_of, set_of}
 use Rattle.cache_spec.specs.Lru.{touch, is_in}
 use Rattle.cache_spec.specs.Distinct.{AreDistinct, others, is_in-others, fetched-distinct}
 use Rattle.focus_spec.specs.Younger.{with_number, after, younger, is_small, block_in}
-use Rattle.focus_spec.specs.RisingSets.{rising-empty}
+use Rattle.set_list.specs.RisingSets.{rising-empty}
 use Rattle.focus_spec.specs.WithNumber.{with_number-below, with_number-first, with_number-above, rising-with_number, with_number-present, length-with_number}
 use Rattle.focus_spec.proofs.Recency.{length-others, take-others, before, is_in-before, before-others}
 

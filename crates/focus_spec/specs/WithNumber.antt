@@ -6,7 +6,7 @@ use Rattle.std.proofs.lemmas.List.Elements.{Contains-append_right}
 use Rattle.std.specs.List.Sorted.{IsStrictlyIncreasing}
 use Rattle.set_list.specs.Rising.{Contains-front}
 use Rattle.focus_spec.specs.Younger.{with_number}
-use Rattle.focus_spec.specs.RisingSets.{rising-one, rising-cons, rising-tail, first_below, not_below_first, behind_first, same_from_subsets}
+use Rattle.set_list.specs.RisingSets.{rising-one, rising-cons, rising-tail, first_below, not_below_first, behind_first, same_from_subsets}
 
 -- below the first number it stands in front
 pub with_number-below : (x y : ℕ) (ys : List ℕ) → x < y → with_number x (y ∷ ys) ≡ x ∷ y ∷ ys

@@ -6,11 +6,12 @@ use Rattle.transition_spec.specs.Path.{IsPath}
 use Rattle.path_model.specs.declared.graph.Node.{Node}
 use Rattle.path_model.specs.Graph.{graph_step}
 use Rattle.set_list.specs.SetList.{IsSubset}
+use Rattle.set_list.specs.RisingSets.{subset-short, same_from_subsets}
 use Rattle.focus_spec.specs.Younger.{is_small}
 use Rattle.focus_spec.specs.Focus.{younger_after, Leaves, AreLeast}
 use Rattle.focus_values.specs.Marks.{Setting, Mark, over, under, lost, is_set, marks_of}
 use Rattle.focus_values.specs.Families.{AreFit, HasUnder}
-use Rattle.focus_values.proofs.Small.{set-rising, set-few, set_from, subset-short, same_sets}
+use Rattle.focus_values.proofs.Small.{set-rising, set-few, set_from}
 use Rattle.focus_values.proofs.Meaning.{marks-true, marks_from}
 use Rattle.focus_values.proofs.Fit.{one_set}
 use Rattle.focus_values.proofs.Outcome.{marks_one, marks-small, marks-large, IsLocal, AreLocal, AreWithin, younger-local, only}
@@ -116,7 +117,7 @@ module _ (g : Setting) (nodes : List Node) (within : AreWithin g) (n : ℕ) (lea
         let less = includes_least one.0 left one.2 in
         let is_s = fit.lowest s there less.0 less.1 (λ x has. one.3 x (less.2 x has)) in
         let back : IsSubset s one.0 = subst (λ (t : List ℕ). IsSubset t one.0) is_s less.2 in
-        let same = same_sets one.0 s (left-local one.0 left).rising (set-rising g s s_is) one.3 back in
+        let same = same_from_subsets one.0 s (left-local one.0 left).rising (set-rising g s s_is) one.3 back in
         subst IsLeft same left
 
     -- and no other that is included in it
@@ -127,7 +128,7 @@ module _ (g : Setting) (nodes : List Node) (within : AreWithin g) (n : ℕ) (lea
         let short = subset-short other s other_is.rising (set-rising g s s_is) subset in
         let less = includes_least other left (omega (arith, short, set-few g s s_is)) in
         let is_s = fit.lowest s there less.0 less.1 (λ x has. subset x (less.2 x has)) in
-        same_sets other s other_is.rising (set-rising g s s_is) subset
+        same_from_subsets other s other_is.rising (set-rising g s s_is) subset
         (subst (λ (t : List ℕ). IsSubset t other) is_s less.2)
 
     -- the least younger sets are exact

@@ -3,10 +3,11 @@ use Rattle.std.proofs.Common.{◌≡◌, ℕ, ◌<◌, List, length, ltb, Option
 use Rattle.std.proofs.lemmas.Bool.{ltb-true, true_from_ne_false}
 use Rattle.path_model.specs.declared.graph.Node.{Node}
 use Rattle.set_list.specs.SetList.{IsSubset}
+use Rattle.set_list.specs.RisingSets.{same_from_subsets}
 use Rattle.focus_spec.specs.Focus.{Leaves, MayBeLarge, IsMostYounger, AreMost}
 use Rattle.focus_values.specs.Marks.{Setting, under, lost}
 use Rattle.focus_values.specs.Families.{AreFit, HasOver}
-use Rattle.focus_values.proofs.Small.{set-rising, same_sets}
+use Rattle.focus_values.proofs.Small.{set-rising}
 use Rattle.focus_values.proofs.Meaning.{marks-true, marks_from}
 use Rattle.focus_values.proofs.Outcome.{marks_one, AreWithin}
 use Rattle.focus_values.proofs.Exact.{one-under, under-one, one-lost, lost-one, AreAbove, AreReached, Left, left-local, left-set}
@@ -62,7 +63,7 @@ module _ (g : Setting) (nodes : List Node) (within : AreWithin g) (n : ℕ) (lea
               let more = in_most one.0 left in
               let is_s = fit.highest s there more.0 more.1 (λ x has. more.2 x (one.3 x has)) in
               let back : IsSubset one.0 s = subst (IsSubset one.0) is_s more.2 in
-              let same = same_sets one.0 s (left-local g nodes within n least (Some sets) fit one.0 left).rising
+              let same = same_from_subsets one.0 s (left-local g nodes within n least (Some sets) fit one.0 left).rising
               (set-rising g s s_is) back one.3 in
               subst Remains same left
         ]
@@ -72,7 +73,7 @@ module _ (g : Setting) (nodes : List Node) (within : AreWithin g) (n : ℕ) (lea
     most_most s there other left subset =
         let more = in_most other left in
         let is_s = fit.highest s there more.0 more.1 (λ x has. more.2 x (subset x has)) in
-        same_sets other s (left-local g nodes within n least (Some sets) fit other left).rising
+        same_from_subsets other s (left-local g nodes within n least (Some sets) fit other left).rising
         (set-rising g s (fit.most_sets s there))
         (subst (IsSubset other) is_s more.2) subset
 

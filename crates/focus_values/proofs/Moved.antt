@@ -3,19 +3,19 @@ use Rattle.std.proofs.Common.{◌≡◌, ℕ, ◌+◌, ◌≤◌, Bool, true, �
 use mathlib.Core.Path.{fun_ext}
 use Rattle.std.proofs.lemmas.Bool.{and_parts, and_from, cases_Bool, cases_eq, both_ways, cond-true, cond-false, ltb-true, lt-ltb, not-true, not_from_false, false_from_ne_true, or_cases, or_right, ne_eqb}
 use Rattle.std.specs.List.{list_any, filter}
+use Rattle.list_lemmas.proofs.Members.{has-map}
 use Rattle.set_list.specs.SetList.{IsSubset}
 use Rattle.set_list.specs.Rising.{Contains-front}
 use Rattle.plain_family.specs.Family.{IsWith}
-use Rattle.plain_family.proofs.Smaller.{smaller_or_same}
+use Rattle.set_list.specs.RisingSets.{smaller_or_same, subset-short}
 use Rattle.focus_spec.specs.Younger.{with_number}
 use Rattle.focus_values.specs.Tests.{same_tests, found_from_any, any_from_found}
 use Rattle.focus_values.specs.Sets.{has, without}
-use Rattle.focus_values.specs.AllSets.{Contains-map}
 use Rattle.focus_values.proofs.SetFacts.{has-true, has_from}
 use Rattle.focus_values.specs.Marks.{Setting, Mark, over, under, lost, is_set, is_mark, all_sets, fills, lost_sources, other_sources, sources_of, always_of, is_fresh, marks_of}
 use Rattle.focus_values.specs.MarkLaws.{listed}
 use Rattle.focus_values.specs.Families.{AreFit, AreSets, sets_in, HasUnder, IsLeastAfter, IsMostAfter}
-use Rattle.focus_values.proofs.Small.{set-rising, set-few, subset-short, Contains-without, Contains-without_from, without-lacks, set-without, with_is, with-length, with-present}
+use Rattle.focus_values.proofs.Small.{set-rising, set-few, Contains-without, Contains-without_from, without-lacks, set-without, with_is, with-length, with-present}
 use Rattle.focus_values.proofs.Meaning.{Says, marks-true, marks_from}
 
 -- what a filter keeps
@@ -110,7 +110,7 @@ module _ (g : Setting) (other : ℕ) (least : List (List ℕ)) where
       (fills_from g other is.0 is.1 t_is is.3 is.4) in
       any_from_found (Before (Some many)) (lost_sources g other) (under is.0)
       ((Contains-front lost (map under (filter (fills g other) (all_sets g))) (under is.0)).1
-      (inl (Contains-map under (filter (fills g other) (all_sets g)) is.0 full)))
+      (inl (has-map under (filter (fills g other) (all_sets g)) is.0 full)))
       (marks_from g least (Some many) (under is.0) t_is (is.0, is.2, λ x there. there))
 
   -- and they do get absent there

@@ -1,11 +1,13 @@
 -- What is moved along a path stands for the younger set that the path leaves.
 use Rattle.std.proofs.Common.{◌≡◌, ℕ, ◌<◌, ◌≤◌, Bool, cond, List, [], ◌∷◌, length, eqb, ltb, Option, Some, None, Contains, inl, inr, refl, sym, subst, ap, ◌∙◌, arith}
-use Rattle.std.proofs.lemmas.Bool.{cases_eq, cases_lt, cond-true, cond-false, eq-eqb, ne_eqb, lt-ltb, le-ltb}
+use Rattle.std.proofs.lemmas.Bool.{cases_eq, cases_lt, cond-false, ne_eqb, lt-ltb, le-ltb}
 use Rattle.std.specs.List.Sorted.{IsStrictlyIncreasing}
 use Rattle.std.specs.Option.{option_map}
+use Rattle.focus_spec.proofs.Renamed.{after-own}
 use Rattle.lattice_fix.specs.Along.{along}
 use Rattle.set_list.specs.SetList.{IsSubset}
 use Rattle.set_list.specs.Rising.{Contains-front}
+use Rattle.set_list.specs.RisingSets.{subset-short}
 use Rattle.plain_family.specs.Family.{IsWith}
 use Rattle.plain_family.proofs.Smaller.{IsWith-unique}
 use Rattle.focus_spec.specs.Younger.{with_number, after, fetch_at}
@@ -14,7 +16,7 @@ use Rattle.focus_spec.specs.WithNumber.{Contains-with_number, rising-with_number
 use Rattle.focus_values.specs.Marks.{Setting, Mark, marks_of, framework_of}
 use Rattle.focus_values.specs.MarkLaws.{marks_within}
 use Rattle.focus_values.specs.Families.{IsLeastAfter, AreMostAfter}
-use Rattle.focus_values.proofs.Small.{set_from, subset-short, with_is}
+use Rattle.focus_values.proofs.Small.{set_from, with_is}
 use Rattle.focus_values.proofs.Moved.{moved_by, marks-after}
 use Rattle.focus_values.proofs.Kept.{marks-begin, marks-fresh, marks-still}
 use Rattle.focus_values.proofs.Fit.{fit-begin, fit-one, one_set}
@@ -74,10 +76,6 @@ with-local g other set below is = record {
 abbrev grown : ℕ → Option (List ℕ) → Option (List ℕ)
 grown other y = option_map (with_number other) y
 
--- a fetch of its own leaves it empty
-after_own : (block other : ℕ) (y : Option (List ℕ)) → other ≡ block → after block (Some other) y ≡ Some []
-after_own block other y same = cond-true (eqb other block) (Some []) (grown other y) (eq-eqb other block same)
-
 -- a fetch of another block adds that one
 after_other : (block other : ℕ) (y : Option (List ℕ)) → (other ≡ block → ⊥) → after block (Some other) y ≡ grown other y
 after_other block other y apart = cond-false (eqb other block) (Some []) (grown other y) (ne_eqb other block apart)
@@ -101,7 +99,7 @@ after-local : (g : Setting) (fetch : Option ℕ) (set : Option (List ℕ))
     → ((local : ℕ) → fetch ≡ Some local → local < g.count) → AreLocal g set → AreLocal g (after g.block fetch set)
 after-local g None set below is = is
 after-local g (Some other) set below is = elim (cases_eq other g.block) [
-  | inl same ↦ subst (AreLocal g) (sym (after_own g.block other set same)) (empty-local g)
+  | inl same ↦ subst (AreLocal g) (sym (after-own g.block other set same)) (empty-local g)
   | inr apart ↦ subst (AreLocal g) (sym (after_other g.block other set apart))
       (grown-local g other set (below other refl) is)
 ]
@@ -234,7 +232,7 @@ one-moves g None y some below is = sym (marks-still g (marks_one g y)
 one-moves g (Some other) y some below is = elim (cases_eq other g.block) [
   | inl same ↦
       sym (marks-fresh g other (marks_one g y) same)
-      ∙ (sym (marks-small g [] some) ∙ ap (marks_one g) (sym (after_own g.block other y same)))
+      ∙ (sym (marks-small g [] some) ∙ ap (marks_one g) (sym (after-own g.block other y same)))
   | inr apart ↦ one-grown g other y apart (below other refl) is
       ∙ ap (marks_one g) (sym (after_other g.block other y apart))
 ]

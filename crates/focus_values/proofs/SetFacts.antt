@@ -5,7 +5,7 @@ use Rattle.std.specs.List.{Contains}
 use Rattle.std.specs.List.Sorted.{IsStrictlyIncreasing}
 use Rattle.set_list.specs.SetList.{IsSubset}
 use Rattle.set_list.specs.Rising.{Contains-front}
-use Rattle.focus_spec.specs.RisingSets.{rising-cons, rising-tail, above_first}
+use Rattle.set_list.specs.RisingSets.{rising-cons, rising-tail, above_first}
 use Rattle.focus_values.specs.Tests.{found_from_any, any_from_found}
 use Rattle.focus_values.specs.Sets.{has, is_within, rises}
 

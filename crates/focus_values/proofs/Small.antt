@@ -2,10 +2,9 @@
 use Rattle.std.proofs.Common.{◌≡◌, ℕ, ◌+◌, ◌<◌, ◌≤◌, true, ◌&&◌, List, [], ◌∷◌, length, eqb, ltb, leb, Contains, inl, inr, refl, sym, subst, ap, ◌∙◌, arith}
 use Rattle.std.proofs.lemmas.Bool.{and_parts, and_from, cases_eq, cond-true, cond-false, eq-eqb, ne_eqb, ltb-true, leb-true, lt-ltb, le-leb}
 use Rattle.std.specs.List.Sorted.{IsStrictlyIncreasing}
-use Rattle.set_list.specs.SetList.{IsSubset}
 use Rattle.set_list.specs.Rising.{Contains-front}
 use Rattle.plain_family.specs.Family.{IsWith}
-use Rattle.plain_family.proofs.Smaller.{smaller_or_same, IsWith-unique}
+use Rattle.plain_family.proofs.Smaller.{IsWith-unique}
 use Rattle.focus_spec.specs.Younger.{with_number}
 use Rattle.focus_spec.specs.WithNumber.{Contains-with_number, rising-with_number, with_number-present, length-with_number}
 use Rattle.focus_values.specs.Sets.{rises, without}
@@ -31,20 +30,6 @@ pub set_from : (g : Setting) (s : List ℕ) → IsStrictlyIncreasing s → ((x :
 set_from g s up within few =
     and_from (rises 0 g.count s) (ltb (length s) g.ways)
     (rises_from_rising 0 g.count s up (λ x there. (omega arith, within x there))) (lt-ltb (length s) g.ways few)
-
--- a subset has no more numbers
-pub subset-short : (s t : List ℕ) → IsStrictlyIncreasing s → IsStrictlyIncreasing t → IsSubset s t → length s ≤ length t
-subset-short s t s_up t_up subset = elim (smaller_or_same s t s_up t_up subset) [
-  | inl fewer ↦ omega arith
-  | inr same ↦ omega (arith, ap length same)
-]
-
--- sets that include each other are the same
-pub same_sets : (s t : List ℕ) → IsStrictlyIncreasing s → IsStrictlyIncreasing t → IsSubset s t → IsSubset t s → s ≡ t
-same_sets s t s_up t_up there back = elim (smaller_or_same s t s_up t_up there) [
-  | inl fewer ↦ let short = subset-short t s t_up s_up back in absurd (omega arith)
-  | inr same ↦ same
-]
 
 -- a first number x goes
 without-same : (x y : ℕ) (ys : List ℕ) → y ≡ x → without x (y ∷ ys) ≡ without x ys

@@ -1,18 +1,10 @@
 -- All sets of local numbers are listed.
-use Rattle.std.proofs.Common.{◌≡◌, ℕ, zero, suc, ◌+◌, true, ◌&&◌, List, [], ◌∷◌, map, ltb, leb, refl, sym, inl, inr, subst, ap, arith}
+use Rattle.std.proofs.Common.{◌≡◌, ℕ, zero, suc, ◌+◌, true, ◌&&◌, List, [], ◌∷◌, map, ltb, leb, refl, sym, inl, inr, subst, arith}
 use Rattle.std.proofs.lemmas.Bool.{and_parts, and_from, ltb-true, leb-true, le-leb, cases_eq}
 use Rattle.std.proofs.lemmas.List.Elements.{Contains-append_left, Contains-append_right}
 use Rattle.std.specs.List.{Contains}
-use Rattle.set_list.specs.Rising.{Contains-front}
+use Rattle.list_lemmas.proofs.Members.{has-map}
 use Rattle.focus_values.specs.Sets.{rises, sets_from}
-
--- what an image contains
-pub Contains-map : {X Y : Type 0} (f : X → Y) (xs : List X) (x : X) → Contains xs x → Contains (map f xs) (f x)
-Contains-map f [] x there = absurd (omega (arith, there.1))
-Contains-map {X} {Y} f (first ∷ xs) x there = elim ((Contains-front first xs x).0 there) [
-  | inl rest ↦ (Contains-front (f first) (map f xs) (f x)).1 (inl (Contains-map f xs x rest))
-  | inr same ↦ (Contains-front (f first) (map f xs) (f x)).1 (inr (ap f same))
-]
 
 -- the sets from a least number on are all that rise from there
 pub sets_complete : (n low high : ℕ) (set : List ℕ) → low + n ≡ high → rises low high set ≡ true
@@ -33,7 +25,7 @@ sets_complete (suc n) low high (x ∷ xs) span up =
       | inl first ↦
           let behind : rises (low + 1) high xs ≡ true = subst (λ (k : ℕ). rises (k + 1) high xs ≡ true) first
           high_parts.1 in
-          let there = Contains-map (λ s. low ∷ s) rest xs (sets_complete n (low + 1) high xs (omega arith) behind) in
+          let there = has-map (λ s. low ∷ s) rest xs (sets_complete n (low + 1) high xs (omega arith) behind) in
           Contains-append_right rest (map (λ s. low ∷ s) rest) (x ∷ xs)
           (subst (λ (k : ℕ). Contains (map (λ s. low ∷ s) rest) (k ∷ xs)) (sym first) there)
       | inr later ↦

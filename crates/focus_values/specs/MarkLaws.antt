@@ -3,12 +3,13 @@ use Rattle.std.proofs.Common.{◌≡◌, ℕ, true, List, ◌++◌, Option, map,
 use Rattle.std.proofs.lemmas.Bool.{and_parts}
 use Rattle.std.proofs.lemmas.List.Elements.{Contains-append_left, Contains-append_right}
 use Rattle.std.specs.List.{Contains}
+use Rattle.list_lemmas.proofs.Members.{has-map}
 use Rattle.set_list.specs.Rising.{Contains-front}
 use Rattle.lattice_fix.specs.Framework.{IsMonotone}
 use Rattle.focus_values.specs.Power.{HasAll}
 use Rattle.focus_values.specs.PowerLaws.{power_monotone}
 use Rattle.focus_values.specs.Sets.{rises}
-use Rattle.focus_values.specs.AllSets.{Contains-map, sets_complete}
+use Rattle.focus_values.specs.AllSets.{sets_complete}
 use Rattle.focus_values.specs.Marks.{Setting, Mark, over, under, lost, is_set, is_mark, all_sets, marking, framework_of, marks_of, says}
 
 -- each small set of local numbers is listed
@@ -22,12 +23,12 @@ all_listed g (over set) is =
     let sets = all_sets g in
     (Contains-front lost (map over sets ++ map under sets) (over set)).1
     (inl (Contains-append_left (map over sets) (map under sets) (over set)
-    (Contains-map over sets set (listed g set is))))
+    (has-map over sets set (listed g set is))))
 all_listed g (under set) is =
     let sets = all_sets g in
     (Contains-front lost (map over sets ++ map under sets) (under set)).1
     (inl (Contains-append_right (map over sets) (map under sets) (under set)
-    (Contains-map under sets set (listed g set is))))
+    (has-map under sets set (listed g set is))))
 all_listed g lost is =
     let sets = all_sets g in
     (Contains-front lost (map over sets ++ map under sets) lost).1 (inr refl)

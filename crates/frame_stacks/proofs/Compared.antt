@@ -48,7 +48,7 @@ pub frames_cmp_itself : (frames : List Frame) → frames_cmp frames frames ≡ E
 frames_cmp_itself frames = tied_itself nat_list_cmp_total (flat_map frame_numbers frames)
 
 -- a link register's number is its own
-link_from_number : (link other : Link) → link_number link ≡ link_number other → link ≡ other
+pub link_from_number : (link other : Link) → link_number link ≡ link_number other → link ≡ other
 link_from_number X1 X1 same = refl
 link_from_number X5 X5 same = refl
 link_from_number X1 X5 same = absurd (omega arith)

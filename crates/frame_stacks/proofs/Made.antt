@@ -1,6 +1,6 @@
 -- The stacks that cells make: how many, which stay when a cell is added, and which a cell makes.
 use Rattle.std.proofs.Common.{◌≡◌, ℕ, suc, zero, ◌+◌, ◌-◌, ◌<◌, ◌≤◌, List, [], ◌∷◌, ◌++◌, length, refl, sym, ap, ◌∙◌, arith}
-use Rattle.std.proofs.lemmas.List.{length_push, get_or_append_left, get_or_at}
+use Rattle.std.proofs.lemmas.List.{length_push, get_or_append_left, get_or_at, get_or_past}
 use Rattle.std.proofs.lemmas.Option.{slice_get-get_or}
 use Rattle.std.specs.Prelude.{Some, slice_get, slice_index_or}
 use Rattle.flow_spec.specs.declared.frame.Frame.{Frame}
@@ -56,6 +56,10 @@ length-stacks_of cells = omega (arith, length-stacks_after ([] ∷ []) cells)
 -- number 0 has no frames
 pub frames_of_zero : (cells : List StackCell) → frames_of cells 0 ≡ []
 frames_of_zero cells = get_or-stacks_after ([] ∷ []) cells 0 (omega arith)
+
+-- nor has a number past all stacks
+pub frames_of_past : (cells : List StackCell) (s : ℕ) → length cells < s → frames_of cells s ≡ []
+frames_of_past cells s past = get_or_past (stacks_of cells) s [] (omega (arith, length-stacks_of cells))
 
 -- the cell at place k makes stack k + 1
 pub frames_of-cell : (cells : List StackCell) (k : ℕ) (cell : StackCell) → slice_get cells k ≡ Some cell → cell.below ≤ k

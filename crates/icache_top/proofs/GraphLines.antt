@@ -1,10 +1,11 @@
 -- The lines of an expanded graph are those of its configurations.
 use Rattle.std.proofs.Common.{◌≡◌, ℕ, zero, suc, ◌+◌, ◌<◌, List, [], ◌∷◌, ◌++◌, length, map, refl, ap, ◌∙◌, subst, arith, Some, None}
-use Rattle.std.specs.Prelude.{Bool, true, false, ◌&&◌, nat_lt, Option, Contains, slice_get, slice_index_or}
+use Rattle.std.specs.Prelude.{true, nat_lt, Option, Contains, slice_get, slice_index_or}
 use Rattle.std.specs.List.{AllZip}
 use Rattle.std.specs.Option.{option_to_list}
 use Rattle.std.proofs.lemmas.Slice.Zip.{AllZip-long}
 use Rattle.std.proofs.lemmas.Bool.Decides.{nat_tests}
+use Rattle.std.proofs.lemmas.Bool.{and_parts}
 use Rattle.path_model.specs.declared.graph.Node.{Node}
 use Rattle.path_model.specs.Graph.{is_fit, are_fit}
 use Rattle.path_model.proofs.Edges.{fit_at}
@@ -38,14 +39,6 @@ numbered_is [] n below = absurd (omega arith)
 numbered_is (c ∷ configurations) zero below = refl
 numbered_is (c ∷ configurations) (suc n) below = numbered_is configurations n (omega arith)
 
-both_left : (a b : Bool) → (a && b) ≡ true → a ≡ true
-both_left true b both = refl
-both_left false b both = cc
-
-both_right : (a b : Bool) → (a && b) ≡ true → b ≡ true
-both_right true b both = both
-both_right false b both = cc
-
 below_test : (n count : ℕ) → nat_lt n count ≡ true → n < count
 below_test n count is = grind (arith, nat_tests)
 
@@ -61,8 +54,8 @@ edges_are count (Some first) None fit = record {
 edges_are count (Some first) (Some second) fit = record {
   ordered = λ none. absurd (cc none);
   inside = λ configurations long.
-      let below = below_test first count (both_left _ _ fit) in
-      let behind = below_test second count (both_left _ _ (both_right (nat_lt first count) _ fit)) in
+      let below = below_test first count (and_parts _ _ fit).0 in
+      let behind = below_test second count (and_parts _ _ (and_parts (nat_lt first count) _ fit).1).0 in
       let one = numbered_is configurations first (omega (arith, long, below)) in
       let two = numbered_is configurations second (omega (arith, long, behind)) in
       ap (λ x. x ∷ slice_get configurations second ∷ []) one

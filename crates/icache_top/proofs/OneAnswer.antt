@@ -4,10 +4,10 @@ use Rattle.std.specs.Prelude.{◌⊎◌, ◌≢◌, Option, Ok, Err}
 use Rattle.elf_spec.specs.Image.{Image, image_of}
 use Rattle.elf_spec.specs.declared.fault.ElfFault.{ElfFault}
 use Rattle.flow_spec.specs.declared.fault.FlowFault.{FlowFault}
-use Rattle.flow_spec.specs.Acceptance.{IsAccepted, IsRefused}
+use Rattle.flow_spec.specs.Acceptance.{IsRefused}
 use Rattle.flow_spec.specs.Configuration.{Configuration}
 use Rattle.flow_spec.specs.Successors.{successors}
-use Rattle.node_spec.specs.Blocks.{HaveMany}
+use Rattle.focus_spec.specs.Blocks.{HaveMany}
 use Rattle.command_spec.specs.declared.settings.Settings.{Settings}
 use Rattle.command_spec.specs.declared.settings.Settings.TheVariants.{Classify, Graph}
 use Rattle.command_spec.specs.Settings.{settings_of}
@@ -17,7 +17,7 @@ use Rattle.one_answer.proofs.Programs.{accepted_refused, one_numbering, one_faul
 use Rattle.one_answer.proofs.Blocks.{few_in_all_many, one_many}
 use Rattle.one_answer.proofs.Graphs.{one_graph_text}
 use Rattle.one_answer.proofs.Reports.{one_report}
-use Rattle.icache_top.specs.Answer.{Decides, Judges, IsAnswerOf, HasManyBlocks, HasElfFault, HasFlowFault, IsAcceptedWith, IsTextFrom, IsTooMuchFor, AreSameFor, addresses_of, entry_of, file_limit}
+use Rattle.icache_top.specs.Answer.{Decides, IsAnswerOf, HasManyBlocks, HasElfFault, HasFlowFault, IsAcceptedWith, IsTextFrom, IsTooMuchFor, AreSameFor, addresses_of, entry_of, file_limit}
 
 -- a file that is read has one image
 one_image : (file : List ℕ) (image other : Image) → image_of file ≡ Ok image → image_of file ≡ Ok other → image ≡ other

@@ -17,9 +17,9 @@ use Rattle.report_spec.specs.Text.{text_of}
 use Rattle.call_expand.specs.Expansion.{Expansion, IsNodeOf, IsGraphOf}
 use Rattle.command_spec.specs.declared.settings.Settings.TheVariants.{Classify}
 use Rattle.line_sender.specs.declared.SendStop.{SendStop}
-use Rattle.node_spec.specs.Blocks.{HaveFewInAll, HaveMany}
+use Rattle.focus_spec.specs.Blocks.{HaveFewInAll, HaveMany}
 use Rattle.node_verdicts.specs.Verdicts.{AreRight, IsFault}
-use Rattle.node_verdicts.specs.Verdicts.{addresses_of as node_addresses}
+use Rattle.path_model.specs.Graph.{addresses_of as node_addresses}
 use Rattle.node_verdicts.specs.declared.verdicts.VerdictsFault.{VerdictsFault}
 use Rattle.node_verdicts.specs.declared.verdicts.VerdictsFault.TheVariants as faults
 use Rattle.report_lines.specs.Findings.{IsWithin, AreFindings}

@@ -2,7 +2,6 @@
 use Rattle.std.proofs.Common.{◌≡◌, ℕ, List, [], ◌∷◌, ◌++◌, refl, sym, ap, subst, ◌∙◌, append-nil, append_assoc, inl, inr, arith}
 use Rattle.std.specs.Prelude.{Bool, true, Option, Some, None, Result, Ok, Err, OnErr}
 use Rattle.std.specs.List.{list_all}
-use Rattle.std.proofs.lemmas.Option.{slice_get_within}
 use Rattle.elf_spec.specs.Image.{Image}
 use Rattle.byte_port.specs.Stream.{SendsPrefix}
 use Rattle.line_sender.specs.Pending.{Pending}
@@ -92,7 +91,7 @@ module _ (contexts : Bool) (image : Image) (expanded : Expansion) (verdicts : Li
 pub found_valid : (image : Image) (expanded : Expansion) (verdicts : List Verdict) → AreFound image expanded verdicts
     → list_all is_valid_verdict verdicts ≡ true
 found_valid image expanded verdicts (entry, g, found) =
-    right_valid expanded.nodes g verdicts (λ k v is. slice_get_within verdicts k v is) (λ n below. found.right n (omega (arith, below, found.one_each)))
+    right_valid expanded.nodes g verdicts (λ n below. found.right n (omega (arith, below, found.one_each)))
 
 -- what holds anyway holds of an error
 pub err_of : {V E : Type 0} {P : Type 0} (r : Result V E) → P → OnErr r P

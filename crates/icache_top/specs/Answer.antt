@@ -7,7 +7,7 @@ use Rattle.byte_port.specs.Stream.{SendsPrefix, Takes, TakesAtMost}
 use Rattle.elf_spec.specs.Image.{Image, image_of}
 use Rattle.elf_spec.specs.declared.fault.ElfFault.{ElfFault}
 use Rattle.transition_spec.specs.Layer.{all_of}
-use Rattle.node_spec.specs.Blocks.{HaveFewInAll, HaveMany}
+use Rattle.focus_spec.specs.Blocks.{HaveFewInAll, HaveMany}
 use Rattle.flow_spec.specs.declared.fault.FlowFault.{FlowFault}
 use Rattle.flow_spec.specs.Configuration.{Configuration}
 use Rattle.flow_spec.specs.Acceptance.{IsAccepted, IsRefused}

@@ -2,24 +2,19 @@
 use Rattle.std.proofs.Common.{◌≡◌, ◌≢◌, ℕ, ◌<◌, Bool, List, length, Option, Some, None, IsTrue, sym, ◌∙◌, refl, subst, ⊎_elim}
 use Rattle.std.specs.Prelude.{slice_get}
 use Rattle.std.proofs.lemmas.Bool.{cases_eq}
-use Rattle.std.proofs.lemmas.Option.{slice_get_within, same_Some, none-some}
+use Rattle.std.proofs.lemmas.Option.{slice_get_within, none-some}
 use Rattle.transition_spec.specs.Path.{IsSuccessor}
 use Rattle.path_model.specs.declared.graph.Node.{Node}
 use Rattle.path_model.specs.Graph.{IsGraph, graph_step, are_fit}
 use Rattle.lattice_fix.specs.Framework.{Framework}
 use Rattle.lattice_fix.specs.Course.{IsClear, IsSettled}
 use Rattle.path_model.proofs.Reached.{successor_inside}
-use Rattle.path_model.proofs.Edges.{node-from_successor, LeadsTo, fit_at}
+use Rattle.path_model.proofs.Edges.{node-from_successor, leads-from_successor, LeadsTo, fit_at}
 
 -- both ends of an edge are numbers of nodes
 pub edge_inside : (nodes : List Node) → IsGraph nodes → (n m : ℕ) → IsSuccessor (graph_step nodes) n m → (n < length nodes) × (m < length nodes)
 edge_inside nodes graph n m leads = let named = node-from_successor nodes n m leads in
     (slice_get_within nodes n named.0 named.1, successor_inside nodes n m graph leads)
-
--- an edge leads to one of the node's two successors
-pub edge_leads : (nodes : List Node) (n m : ℕ) (here : Node) → slice_get nodes n ≡ Some here → IsSuccessor (graph_step nodes) n m → LeadsTo here m
-edge_leads nodes n m here found leads = let named = node-from_successor nodes n m leads in
-    subst (λ (node : Node). LeadsTo node m) (same_Some named.0 here (sym named.1 ∙ found)) named.2
 
 -- a second successor comes only behind a first
 second_none : (count : ℕ) (first second : Option ℕ) → IsTrue (are_fit count first second) → first ≡ None → second ≡ None
@@ -39,6 +34,6 @@ pub settled_at : {D : Type 0} (F : Framework D) (nodes : List Node) (held : List
     → ((n m : ℕ) → n ≢ node → IsSuccessor (graph_step nodes) n m → IsClear F held waiting n m) → ((m : ℕ) → LeadsTo here m → IsClear F held waiting node m) → IsSettled F nodes held waiting
 settled_at F nodes held waiting node here found others mine = λ n m leads. ⊎_elim
     (λ (same : n ≡ node). subst (λ (k : ℕ). IsClear F held waiting k m) (sym same)
-    (mine m (edge_leads nodes node m here found (subst (λ (k : ℕ). IsSuccessor (graph_step nodes) k m) same leads))))
+    (mine m (leads-from_successor nodes node m here found (subst (λ (k : ℕ). IsSuccessor (graph_step nodes) k m) same leads))))
     (λ (other : n ≢ node). others n m other leads)
     (cases_eq n node)

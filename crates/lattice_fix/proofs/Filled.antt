@@ -9,12 +9,6 @@ use Rattle.lattice_fix.specs.Replay.{value_at}
 use Rattle.lattice_fix.specs.Solved.{somes}
 use Rattle.lattice_fix.specs.Course.{data_of}
 
--- a place within a list has something
-pub slice_get-inside : {A : Type 0} (xs : List A) (n : ℕ) → n < length xs → (x : A) × (slice_get xs n ≡ Some x)
-slice_get-inside [] n inside = absurd (omega arith)
-slice_get-inside (x ∷ xs) zero inside = (x, refl)
-slice_get-inside (x ∷ xs) (suc n) inside = let rest : n < length xs = omega arith in slice_get-inside xs n rest
-
 -- slots that are all filled are the values in them
 pub somes-filled : {V : Type 0} (slots : List (Option V)) → ((n : ℕ) → n < length slots → (v : V) × (value_at slots n ≡ Some v)) → map Some (somes slots) ≡ slots
 somes-filled [] filled = refl

@@ -2,6 +2,7 @@
 -- that a replay leads to is the least upper bound of what is moved along all paths.
 use Rattle.std.proofs.Common.{◌≡◌, ℕ, suc, ◌<◌, List, [], ◌∷◌, length, map, Some, refl, sym, ◌∙◌, ap, subst, arith}
 use Rattle.std.specs.Prelude.{slice_get}
+use Rattle.list_lemmas.proofs.Members.{found-inside}
 use Rattle.transition_spec.specs.Path.{IsPath, IsSuccessor}
 use Rattle.path_model.specs.declared.graph.Node.{Node}
 use Rattle.path_model.specs.Graph.{IsGraph, graph_step}
@@ -11,7 +12,6 @@ use Rattle.lattice_fix.specs.Solution.{IsSolution, IsLeast}
 use Rattle.lattice_fix.specs.Replay.{Replays, nothing}
 use Rattle.lattice_fix.specs.Along.{along, IsDistributive}
 use Rattle.lattice_fix.proofs.Edges.{edge_inside}
-use Rattle.lattice_fix.proofs.Filled.{slice_get-inside}
 use Rattle.lattice_fix.proofs.Induction.{replay_induction}
 
 -- what is moved along a path is in the carrier
@@ -26,7 +26,7 @@ pub along_below : {D : Type 0} (F : Framework D) → IsMonotone F → (nodes : L
 along_below F M nodes graph before sol n [] x path is = sol.starts x (subst (λ (k : ℕ). slice_get before k ≡ Some x) path is)
 along_below {D} F M nodes graph before sol m (n ∷ earlier) x path is =
     let ends = edge_inside nodes graph n m path.0 in
-    let value = slice_get-inside before n (subst (λ (k : ℕ). n < k) (sym sol.one_each) ends.0) in
+    let value = found-inside before n (subst (λ (k : ℕ). n < k) (sym sol.one_each) ends.0) in
     let y : D = value.0 in
     let moved : D = along F (n ∷ earlier) in
     let cm : F.carrier moved = along_within F M (n ∷ earlier) in

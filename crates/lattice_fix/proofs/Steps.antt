@@ -4,6 +4,7 @@ use Rattle.std.specs.Prelude.{slice_get}
 use Rattle.std.proofs.lemmas.Option.{same_Some, none-some}
 use Rattle.std.proofs.lemmas.Bool.{cases_eq, cases_lt}
 use Rattle.std.proofs.lemmas.List.{length-set, get_or_past, get_or-replicate, length-replicate}
+use Rattle.list_lemmas.proofs.Members.{found-inside}
 use Rattle.path_model.specs.declared.graph.Node.{Node}
 use Rattle.path_model.specs.Graph.{IsGraph}
 use Rattle.lattice_fix.specs.declared.change.Change.{Change}
@@ -12,7 +13,6 @@ use Rattle.lattice_fix.specs.Solution.{IsSolution}
 use Rattle.lattice_fix.specs.Replay.{value_at, Brings, joined, IsStep, Replays, nothing}
 use Rattle.lattice_fix.proofs.Joined.{AllWithin, raised_at, joined_below, raised_within, raised_same, raised_other}
 use Rattle.lattice_fix.proofs.Edges.{edge_inside}
-use Rattle.lattice_fix.proofs.Filled.{slice_get-inside}
 
 -- a place of a list of copies has the copy, as has one past its end
 pub at_replicate : {A : Type 0} (count n : ℕ) (x : A) → slice_index_or (replicate count x) n x ≡ x
@@ -71,7 +71,7 @@ module _ {D : Type 0} (F : Framework D) (M : IsMonotone F) (nodes : List Node) (
   brought_below held n (Some from) x y within below brings is =
       let z : D = brings.1.0 in
       let ends = edge_inside nodes G from n brings.0 in
-      let bound = slice_get-inside other from (subst (λ (k : ℕ). from < k) (sym sol.one_each) ends.0) in
+      let bound = found-inside other from (subst (λ (k : ℕ). from < k) (sym sol.one_each) ends.0) in
       let w : D = bound.0 in
       let cz : F.carrier z = within from z brings.1.1 in
       let cw : F.carrier w = sol.within from w bound.1 in

@@ -1,5 +1,5 @@
 // What the solver asks of the values that it moves along a graph.
-ghost use Rattle.std.specs.Prelude.{◌≡◌, ◌↔◌, ℕ, IfOk, IfErr, OnErr, false};
+ghost use Rattle.std.specs.Prelude.{◌≡◌, ◌↔◌, IfOk, IfErr, OnErr, false};
 ghost use Rattle.lattice_fix.specs.Framework.{Framework, IsMonotone};
 
 /// Values that are moved along the edges of a graph and joined where they meet: a monotone framework (Kam and Ullman

@@ -1,5 +1,5 @@
 // What holds of solutions and paths.
-ghost use Rattle.std.specs.Prelude.{◌≡◌, ℕ, List, ◌∷◌, length, map, slice_get, Some};
+ghost use Rattle.std.specs.Prelude.{◌≡◌, ℕ, List, ◌∷◌, map, slice_get, Some};
 ghost use Rattle.transition_spec.specs.Path.{IsPath};
 ghost use Rattle.path_model.specs.declared.graph.Node.{Node};
 ghost use Rattle.path_model.specs.Graph.{IsGraph, graph_step};

@@ -1,10 +1,8 @@
 // The solver: a node that waits is worked off, least number first, until none waits.
 ghost use Rattle.std.specs.Prelude.{◌≡◌, ◌≢◌, ℕ, ◌<◌, ◌≤◌, ◌∷◌, [], length, vec_len, map, replicate, slice_set, IfOk, IfErr, OnOk, IsTrue, IsSome, Some, None, true, false};
 ghost use Rattle.std.specs.List.{All};
-ghost use Rattle.std.specs.Option.{option_map};
 ghost use Rattle.transition_spec.specs.Path.{IsSuccessor};
 ghost use Rattle.path_model.specs.Graph.{IsGraph, graph_step};
-ghost use Rattle.lattice_fix.specs.Framework.{Framework};
 ghost use Rattle.lattice_fix.specs.Solution.{IsLeast};
 ghost use Rattle.lattice_fix.specs.Replay.{Replays, nothing, value_at};
 ghost use Rattle.lattice_fix.specs.Solved.{IsCause};

@@ -1,5 +1,5 @@
 -- A way that names a path is valid: it has a member, and its choices are letters.
-use Rattle.std.proofs.Common.{◌≡◌, ℕ, ◌<◌, List, [], ◌∷◌, length, lt-ltb, ap, ◌∙◌, inl, inr, arith}
+use Rattle.std.proofs.Common.{◌≡◌, ℕ, ◌<◌, List, [], ◌∷◌, lt-ltb, ap, ◌∙◌, inl, inr, arith}
 use Rattle.std.specs.Prelude.{true, nat_lt, Result, Ok, Err}
 use Rattle.std.specs.List.{list_all}
 use Rattle.std.proofs.lemmas.Bool.{and_from}

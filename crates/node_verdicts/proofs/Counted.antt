@@ -1,15 +1,15 @@
 -- The fetched blocks of a set, told by nodes and by their addresses.
-use Rattle.std.proofs.Common.{◌≡◌, ℕ, zero, suc, ◌<◌, List, [], ◌∷◌, length, refl, ap, sym, ◌∙◌, subst, arith, Option, Some, None}
+use Rattle.std.proofs.Common.{◌≡◌, ℕ, zero, suc, ◌<◌, List, [], ◌∷◌, length, refl, ap, ◌∙◌, subst, arith, Option, Some, None}
 use Rattle.std.specs.Prelude.{Bool, true, false, ◌==◌, if◌then◌else◌, option_map}
 use Rattle.std.specs.List.{Contains}
 use Rattle.std.proofs.lemmas.Bool.Decides.{nat_tests}
 use Rattle.cache_spec.specs.Geometry.{Geometry, block_of, set_of}
 use Rattle.path_model.specs.declared.graph.Node.{Node}
-use Rattle.path_model.specs.Graph.{address_of}
+use Rattle.path_model.specs.Graph.{address_of, addresses_of}
 use Rattle.focus_spec.specs.Younger.{block_in, named, fetch_at}
-use Rattle.set_view.specs.View.{View, IsView, AreFetched, HasFetched}
-use Rattle.node_spec.specs.Blocks.{HaveBlocks, HaveFew}
-use Rattle.node_verdicts.specs.Verdicts.{addresses_of, set_at}
+use Rattle.set_view.specs.View.{View, IsView}
+use Rattle.focus_spec.specs.Blocks.{HaveFew}
+use Rattle.node_verdicts.specs.Verdicts.{set_at}
 
 -- an address is that of a node
 node_of : (nodes : List Node) (address : ℕ) → Contains (addresses_of nodes) address
@@ -19,41 +19,13 @@ node_of (node ∷ nodes) address (zero, lt, is) = (0, omega arith, is)
 node_of (node ∷ nodes) address (suc k, lt, is) =
     let (n, inside, at) = node_of nodes address (k, omega (arith, lt), is) in (suc n, omega (arith, inside), at)
 
--- the address of a node is one of them
-has_address : (nodes : List Node) (n : ℕ) → n < length nodes → Contains (addresses_of nodes) (address_of nodes n)
-has_address [] n inside = absurd (omega (arith, inside))
-has_address (node ∷ nodes) zero inside = (0, omega arith, refl)
-has_address (node ∷ nodes) (suc n) inside =
-    let (k, lt, is) = has_address nodes n (omega (arith, inside)) in (suc k, omega (arith, lt), is)
-
--- the blocks that the nodes fetch are those that their addresses lie in
-blocks_counted : (nodes : List Node) (g : Geometry) (set : ℕ) (blocks : List ℕ) → AreFetched nodes g set blocks
-    → HaveBlocks (addresses_of nodes) g set (length blocks)
-blocks_counted nodes g set blocks fetched = record {
-  blocks = blocks;
-  rising = fetched.rising;
-  members = λ block. (
-    λ has. let (n, inside, is) = (fetched.members block).0 has in (address_of nodes n, has_address nodes n inside, is),
-    λ (address, has, is).
-        let (n, inside, at) = node_of nodes address has in
-        (fetched.members block).1 (n, inside, subst (λ (a : ℕ). block_in g set a ≡ Some block) (sym at) is),
-  );
-  counted = refl;
-}
-
 -- few blocks of a set that has a view are fetched
 pub few_viewed : (nodes : List Node) (g : Geometry) (view : View) → IsView view → view.nodes ≡ nodes → view.geometry ≡ g
     → HaveFew (addresses_of nodes) g view.set
 few_viewed nodes g view is nodes_is geometry_is =
     subst (λ (ns : List Node). HaveFew (addresses_of ns) g view.set) nodes_is
     (subst (λ (h : Geometry). HaveFew (addresses_of view.nodes) h view.set) geometry_is
-    (length view.blocks, blocks_counted view.nodes view.geometry view.set view.blocks is.blocks, is.few))
-
--- as many blocks of a set as its nodes fetch, their addresses lie in
-pub many_fetched : (nodes : List Node) (g : Geometry) (set count : ℕ) → HasFetched nodes g set count
-    → HaveBlocks (addresses_of nodes) g set count
-many_fetched nodes g set count (blocks, fetched, long) =
-    subst (λ (n : ℕ). HaveBlocks (addresses_of nodes) g set n) long (blocks_counted nodes g set blocks fetched)
+    (length view.blocks, (view.blocks, is.blocks, refl), is.few))
 
 -- an address in a block of the set lies in the set: by the test of its set
 set_is_by : (g : Geometry) (set address block : ℕ) (same : Bool) → (set_of g (block_of g address) == set) ≡ same
@@ -70,17 +42,19 @@ pub few_unfetched : (nodes : List Node) (g : Geometry) (set : ℕ) → ((n : ℕ
     → HaveFew (addresses_of nodes) g set
 few_unfetched nodes g set none = (
   0,
-  record {
-    blocks = [];
-    rising = λ k inside. absurd (omega (arith, inside));
-    members = λ block. (
-      λ (k, lt, is). absurd (omega (arith, lt)),
-      λ (address, has, is).
-          let (n, inside, at) = node_of nodes address has in
-          absurd (none n inside (ap (λ (a : ℕ). set_of g (block_of g a)) at ∙ set_is g set address block is)),
-    );
-    counted = refl;
-  },
+  (
+    [],
+    record {
+      rising = λ k inside. absurd (omega (arith, inside));
+      members = λ block. (
+        λ (k, lt, is). absurd (omega (arith, lt)),
+        λ (address, has, is).
+            let (n, inside, at) = node_of nodes address has in
+            absurd (none n inside (ap (λ (a : ℕ). set_of g (block_of g a)) at ∙ set_is g set address block is)),
+      );
+    },
+    refl,
+  ),
   omega arith,
 )
 

@@ -5,8 +5,9 @@ use Rattle.std.proofs.lemmas.Bool.Decides.{nat_tests}
 use Rattle.cache_spec.specs.Geometry.{Geometry}
 use Rattle.path_model.specs.declared.graph.Node.{Node}
 use Rattle.report_spec.specs.declared.line.Verdict.{Verdict}
-use Rattle.node_spec.specs.Blocks.{HaveFew}
-use Rattle.node_verdicts.specs.Verdicts.{KeepRight, AreRightIn, addresses_of}
+use Rattle.focus_spec.specs.Blocks.{HaveFew}
+use Rattle.path_model.specs.Graph.{addresses_of}
+use Rattle.node_verdicts.specs.Verdicts.{KeepRight, AreRightIn}
 
 -- the verdicts of the nodes of one set more are right
 pub right_sets : (nodes : List Node) (g : Geometry) (k : ℕ) (before after : List Verdict) → KeepRight nodes g before after

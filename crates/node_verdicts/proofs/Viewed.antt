@@ -9,7 +9,7 @@ use Rattle.set_view.specs.declared.fetched.ViewFault.{ViewFault}
 use Rattle.set_view.specs.declared.fetched.ViewFault.TheVariants as view_faults
 use Rattle.node_verdicts.specs.declared.verdicts.VerdictsFault.{VerdictsFault}
 use Rattle.node_verdicts.specs.Verdicts.{AreRightIn, AreRightBelow, IsFaultOf, of_view}
-use Rattle.node_verdicts.proofs.Counted.{local_there, many_fetched}
+use Rattle.node_verdicts.proofs.Counted.{local_there}
 
 -- where the verdicts of all blocks are right, so are those of all nodes that fetch the set
 right_viewed : (view : View) (verdicts : List Verdict) → IsView view → AreRightBelow view (length view.blocks) verdicts
@@ -28,7 +28,7 @@ right_in nodes g set view verdicts is nodes_is geometry_is set_is right =
 -- the fault of a view, as that of a set
 of_fault : (nodes : List Node) (g : Geometry) (set : ℕ) (fault : ViewFault) → IsFault nodes g set fault
     → IsFaultOf nodes g set (of_view fault)
-of_fault nodes g set (view_faults.TooManyBlocks which count) (same, many, fetched) = (same, many_fetched nodes g set count fetched, many)
+of_fault nodes g set (view_faults.TooManyBlocks which count) (same, has, many) = (same, has, many)
 of_fault nodes g set view_faults.OutOfMemory is = tt
 
 -- so the fault that is given on is that of the set

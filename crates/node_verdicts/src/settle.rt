@@ -1,9 +1,9 @@
 // The verdicts of the nodes that fetch one set, block by block.
 ghost use Rattle.std.specs.Prelude.{◌≡◌, ◌<◌, false, length, slice_set, IfErr, OnOk};
-ghost use Rattle.node_spec.specs.Blocks.{HaveFew};
+ghost use Rattle.focus_spec.specs.Blocks.{HaveFew};
 ghost use Rattle.set_view.specs.View.{IsView};
-ghost use Rattle.node_verdicts.specs.Verdicts.{KeepRight, AreRightBelow, AreRightIn, AreRightOf};
-ghost use Rattle.node_verdicts.specs.Verdicts.{IsFaultOf, IsUnfetched, addresses_of, verdict_of};
+ghost use Rattle.node_verdicts.specs.Verdicts.{KeepRight, AreRightBelow, AreRightIn, AreRightOf, IsFaultOf, IsUnfetched, verdict_of};
+ghost use Rattle.path_model.specs.Graph.{addresses_of};
 
 use crate::verdicts::VerdictsFault;
 use cache_geom::Geometry;

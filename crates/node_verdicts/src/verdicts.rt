@@ -1,7 +1,8 @@
 // The verdicts of all nodes, set by set.
 ghost use Rattle.std.specs.Prelude.{◌≡◌, length, IfOk, IfErr};
-ghost use Rattle.node_spec.specs.Blocks.{HaveFewInAll};
-ghost use Rattle.node_verdicts.specs.Verdicts.{AreRight, IsFault, addresses_of};
+ghost use Rattle.focus_spec.specs.Blocks.{HaveFewInAll};
+ghost use Rattle.path_model.specs.Graph.{addresses_of};
+ghost use Rattle.node_verdicts.specs.Verdicts.{AreRight, IsFault};
 
 use crate::marks::fetched_sets;
 use crate::settle::settle_marked;

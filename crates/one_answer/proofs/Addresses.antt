@@ -3,6 +3,7 @@ use Rattle.std.proofs.Common.{◌≡◌, ℕ, zero, suc, ◌+◌, ◌-◌, ◌*�
 use Rattle.std.specs.Prelude.{Contains, flat_map}
 use Rattle.std.specs.List.{AllByRecursion}
 use Rattle.std.proofs.lemmas.Bool.{cases_lt}
+use Rattle.list_lemmas.proofs.Members.{has-first, has-later, each-has}
 use Rattle.elf_spec.specs.Image.{Image}
 use Rattle.cache_spec.specs.Geometry.{Geometry}
 use Rattle.report_spec.specs.declared.line.Line.{Line}
@@ -10,9 +11,9 @@ use Rattle.report_spec.specs.declared.line.Line.TheVariants.{At, Context, Unreac
 use Rattle.report_spec.specs.declared.line.Verdict.{Verdict}
 use Rattle.report_spec.specs.Right.{IsRight}
 use Rattle.report_spec.specs.Report.{words_from, range_addresses, addresses_of, IsAt, IsUnreached, IsRightLine, AreGreatest, AreByAddress}
-use Rattle.report_lines.proofs.Words.{first_has, later_has, word_place}
+use Rattle.report_lines.proofs.Words.{word_place}
 use Rattle.one_answer.specs.Alike.{verdict_alone, AreAlike}
-use Rattle.one_answer.proofs.Listed.{each_has, same_rising}
+use Rattle.one_answer.proofs.Listed.{same_rising}
 use Rattle.one_answer.proofs.Verdicts.{one_verdict, reached}
 
 -- the addresses of some lines
@@ -44,11 +45,11 @@ word_among : (first n k : ℕ) → k < n → Contains (words_from first n) (firs
 word_among first zero k below = absurd (omega (arith, below))
 word_among first (suc n) zero below =
     let here : first + 4 * zero ≡ first = omega arith in
-    subst (λ p. Contains (words_from first (suc n)) p) (sym here) (first_has first (words_from (first + 4) n))
+    subst (λ p. Contains (words_from first (suc n)) p) (sym here) (has-first first (words_from (first + 4) n))
 word_among first (suc n) (suc k) below =
     let there : first + 4 + 4 * k ≡ first + 4 * suc k = omega arith in
     subst (λ p. Contains (words_from first (suc n)) p) there
-    (later_has first (first + 4 + 4 * k) (words_from (first + 4) n) (word_among (first + 4) n k (omega (arith, below))))
+    (has-later first (first + 4 + 4 * k) (words_from (first + 4) n) (word_among (first + 4) n k (omega (arith, below))))
 
 -- how many words a range has
 abbrev words_in : ℕ → ℕ → ℕ
@@ -112,7 +113,7 @@ module _ (image : Image) (entry : ℕ) (g : Geometry) where
       let begins : listed lines ≡ words_from (first + 4 * n) (suc more) ++ listed others =
       behind_fewer first n more (listed lines) (listed others) whole in
       let unreached : IsUnreached image entry (first + 4 * n) =
-      each_has (IsUnreached image entry) (range_addresses first end) other.1 (first + 4 * n) (word_among first (words_in first end) n shorter) in
+      each-has (IsUnreached image entry) (range_addresses first end) other.1 (first + 4 * n) (word_among first (words_in first end) n shorter) in
       nothing_behind first last (first + 4 * n) lines (words_from (first + 4 * n + 4) more ++ listed others) greatest right unreached
       (sym (end_of first last range.0)) begins
 
@@ -149,7 +150,7 @@ module _ (image : Image) (entry : ℕ) (g : Geometry) where
       let here : first + 4 * 0 ≡ first = omega arith in
       let among : Contains (range_addresses first last) first =
       subst (λ p. Contains (range_addresses first last) p) here (word_among first (words_in first last) 0 (omega arith)) in
-      not_reached first at verdict (each_has (IsUnreached image entry) (range_addresses first last) range.1 first among) (sym one) right
+      not_reached first at verdict (each-has (IsUnreached image entry) (range_addresses first last) range.1 first among) (sym one) right
 
   -- two ranges in front of lists that are alike are one, and what is behind them is alike
   same_range : (first first' last last' : ℕ) (lines others : List Line) → AreRight (Unreachable first last ∷ lines)

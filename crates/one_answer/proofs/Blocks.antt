@@ -2,17 +2,17 @@
 use Rattle.std.proofs.Common.{◌≡◌, ℕ, ◌<◌, ◌≤◌, List, length, ap, subst, arith, ⊎_elim}
 use Rattle.std.proofs.lemmas.Bool.{cases_lt}
 use Rattle.cache_spec.specs.Geometry.{Geometry}
-use Rattle.node_spec.specs.Blocks.{HaveBlocks, HaveFew, HaveFewInAll, HaveMany}
+use Rattle.focus_spec.specs.Blocks.{HaveBlocks, HaveFew, HaveFewInAll, HaveMany}
 use Rattle.one_answer.proofs.Listed.{same_rising}
 
 module _ (addresses : List ℕ) (g : Geometry) where
   -- the blocks of a set have one count
   one_count : (set count number : ℕ) → HaveBlocks addresses g set count → HaveBlocks addresses g set number → count ≡ number
-  one_count set count number have have' =
-      let same : have.blocks ≡ have'.blocks = same_rising have.blocks have'.blocks have.rising have'.rising
-      (λ block has. (have'.members block).1 ((have.members block).0 has))
-      (λ block has. (have.members block).1 ((have'.members block).0 has)) in
-      omega (arith, have.counted, have'.counted, ap length same)
+  one_count set count number (blocks, are, long) (others, are', long') =
+      let same : blocks ≡ others = same_rising blocks others are.rising are'.rising
+      (λ block has. (are'.members block).1 ((are.members block).0 has))
+      (λ block has. (are.members block).1 ((are'.members block).0 has)) in
+      omega (arith, long, long', ap length same)
 
   -- a set doesn't have few of them and many
   few_many : (set count : ℕ) → HaveFew addresses g set → HaveMany addresses g set count → ⊥

@@ -5,6 +5,7 @@ use Rattle.std.specs.List.Sorted.{IsStrictlySortedBy}
 use Rattle.std.specs.Option.{option_to_list}
 use Rattle.std.specs.declared.cmp.Ordering.TheVariants.{Less}
 use Rattle.std.proofs.lemmas.List.Elements.{Contains-append_cases}
+use Rattle.list_lemmas.proofs.Members.{has-first, has-later, has-found, each-has}
 use Rattle.elf_spec.specs.Image.{Image}
 use Rattle.transition_spec.specs.Layer.{IsInLayer, AreLayersFrom, all_of}
 use Rattle.flow_spec.specs.Acceptance.{Step}
@@ -13,8 +14,7 @@ use Rattle.flow_spec.specs.Order.{configuration_cmp}
 use Rattle.flow_spec.specs.Successors.{successors}
 use Rattle.report_spec.specs.declared.graph_line.GraphLine.{GraphLine}
 use Rattle.report_spec.specs.Graph.{graph_line_text, IsGraphLine, AreGraphLines, IsGraphText}
-use Rattle.report_lines.proofs.Words.{first_has, later_has}
-use Rattle.one_answer.proofs.Listed.{each_has, one_way}
+use Rattle.one_answer.proofs.Listed.{one_way}
 use Rattle.one_answer.proofs.Programs.{configurations_total, one_numbering}
 
 -- no element stands twice
@@ -22,20 +22,14 @@ abbrev AreApart : {A : Type 0} → List A → Type 0
 AreApart [] = Unit {0}
 AreApart (x ∷ xs) = (Contains xs x → ⊥) × AreApart xs
 
--- what is found at a place is contained
-found_has : {A : Type 0} (xs : List A) (n : ℕ) (x : A) → slice_get xs n ≡ Some x → Contains xs x
-found_has [] n x is = absurd (cc is)
-found_has (y ∷ xs) zero x is = let same : y ≡ x = cc is in subst (λ z. Contains (y ∷ xs) z) same (first_has y xs)
-found_has (y ∷ xs) (suc n) x is = later_has y x xs (found_has xs n x is)
-
 -- one that is found at two places is found at one
 one_place : {A : Type 0} (xs : List A) (n m : ℕ) (x : A) → AreApart xs → slice_get xs n ≡ Some x → slice_get xs m ≡ Some x → n ≡ m
 one_place [] n m x apart is is' = absurd (cc is)
 one_place (y ∷ xs) zero zero x apart is is' = refl
 one_place (y ∷ xs) zero (suc m) x apart is is' =
-    let same : x ≡ y = cc is in absurd (apart.0 (subst (λ z. Contains xs z) same (found_has xs m x is')))
+    let same : x ≡ y = cc is in absurd (apart.0 (subst (λ z. Contains xs z) same (has-found xs m x is')))
 one_place (y ∷ xs) (suc n) zero x apart is is' =
-    let same : x ≡ y = cc is' in absurd (apart.0 (subst (λ z. Contains xs z) same (found_has xs n x is)))
+    let same : x ≡ y = cc is' in absurd (apart.0 (subst (λ z. Contains xs z) same (has-found xs n x is)))
 one_place (y ∷ xs) (suc n) (suc m) x apart is is' = ap suc (one_place xs n m x apart.1 is is')
 
 -- lists of which nothing is in both, one behind the other
@@ -44,9 +38,9 @@ apart-append [] ys first second none = second
 apart-append (x ∷ xs) ys first second none = (
   λ has. elim (Contains-append_cases xs ys x has) [
     | inl within ↦ first.0 within
-    | inr behind ↦ none x (first_has x xs) behind
+    | inr behind ↦ none x (has-first x xs) behind
   ],
-  apart-append xs ys first.1 second (λ y has. none y (later_has x y xs has)),
+  apart-append xs ys first.1 second (λ y has. none y (has-later x y xs has)),
 )
 
 -- in strict order no configuration stands twice
@@ -54,7 +48,7 @@ apart-sorted : (cs : List Configuration) → IsStrictlySortedBy configuration_cm
 unfolding IsStrictlySortedBy
 apart-sorted [] sorted = tt
 apart-sorted (c ∷ cs) sorted = (
-  λ has. let less = each_has (λ d. configuration_cmp c d ≡ Less) cs sorted.0 c has in one_way configuration_cmp configurations_total c c less less,
+  λ has. let less = each-has (λ d. configuration_cmp c d ≡ Less) cs sorted.0 c has in one_way configuration_cmp configurations_total c c less less,
   apart-sorted cs sorted.1,
 )
 

@@ -4,9 +4,10 @@ use Rattle.std.specs.Prelude.{◌⊎◌, Result}
 use Rattle.std.specs.List.{AllByRecursion}
 use Rattle.std.specs.Cmp.{IsTotalOrder}
 use Rattle.std.specs.declared.cmp.Ordering.{Ordering}
+use Rattle.list_lemmas.proofs.Members.{empty-none}
 use Rattle.transition_spec.specs.Path.{IsPath}
 use Rattle.transition_spec.specs.Layer.{IsReachedIn, IsInLayer, IsLayer, AreLayersFrom}
-use Rattle.one_answer.proofs.Listed.{none_has, same_sorted}
+use Rattle.one_answer.proofs.Listed.{same_sorted}
 
 -- the last layer of these is one of the earlier ones of those
 abbrev pub EndsWithin : {C : Type 0} → List (List C) → List C → List (List C) → Type 0
@@ -35,7 +36,7 @@ module _ {C F : Type 0} (step : C → Result (List C) F) (start : C) (order : C 
   -- behind an empty layer comes an empty one
   none_next : (n : ℕ) (layer : List C) → IsLayer step start order n [] → IsLayer step start order (n + 1) layer → layer ≡ []
   none_next n layer empty is =
-      none_has layer (λ c has.
+      empty-none layer (λ c has.
       let it = (is.members c).0 has in
       let (earlier, long, path) = it.reached in
       let (b, before) = from_layer n c it.no_sooner earlier long path in

@@ -9,20 +9,7 @@ use Rattle.std.specs.declared.cmp.Ordering.{Ordering}
 use Rattle.std.specs.declared.cmp.Ordering.TheVariants.{Less}
 use Rattle.std.proofs.lemmas.Cmp.{nat_cmp_total}
 use Rattle.std.proofs.lemmas.Map.Keys.{sorted_from_strictly_increasing}
-use Rattle.report_lines.proofs.Words.{first_has, later_has, cons_has}
-
--- what holds of each element of a list holds of one that it contains
-pub each_has : {A : Type 0} (P : A → Type 0) (xs : List A) → AllByRecursion P xs → (x : A) → Contains xs x → P x
-each_has P [] all x (k, lt, is) = absurd (omega (arith, lt))
-each_has P (y ∷ xs) all x has = elim (cons_has y x xs has) [
-  | inl same ↦ subst P (sym same) all.0
-  | inr later ↦ each_has P xs all.1 x later
-]
-
--- a list that contains nothing is empty
-pub none_has : {A : Type 0} (xs : List A) → ((x : A) → Contains xs x → ⊥) → xs ≡ []
-none_has [] none = refl
-none_has (x ∷ xs) none = absurd (none x (first_has x xs))
+use Rattle.list_lemmas.proofs.Members.{has-first, has-later, has-cases, empty-none, each-has}
 
 module _ {A : Type 0} (order : A → A → Ordering) (total : IsTotalOrder order) where
   -- nothing comes both before and behind another
@@ -35,21 +22,21 @@ module _ {A : Type 0} (order : A → A → Ordering) (total : IsTotalOrder order
   -- the first of one list is the first of the other
   same_first : (x y : A) (xs ys : List A) → AllByRecursion (λ z. order x z ≡ Less) xs → AllByRecursion (λ z. order y z ≡ Less) ys
       → Contains (y ∷ ys) x → Contains (x ∷ xs) y → x ≡ y
-  same_first x y xs ys before before' has has' = elim (cons_has y x ys has) [
+  same_first x y xs ys before before' has has' = elim (has-cases y x ys has) [
     | inl same ↦ same
-    | inr later ↦ elim (cons_has x y xs has') [
+    | inr later ↦ elim (has-cases x y xs has') [
       | inl same ↦ sym same
-      | inr later' ↦ absurd (one_way x y (each_has (λ z. order x z ≡ Less) xs before y later')
-          (each_has (λ z. order y z ≡ Less) ys before' x later))
+      | inr later' ↦ absurd (one_way x y (each-has (λ z. order x z ≡ Less) xs before y later')
+          (each-has (λ z. order y z ≡ Less) ys before' x later))
     ]
   ]
 
   -- what is behind the first of one list is behind that of the other
   same_later : (x y : A) (xs ys : List A) → x ≡ y → AllByRecursion (λ z. order x z ≡ Less) xs
       → ((z : A) → Contains (x ∷ xs) z → Contains (y ∷ ys) z) → (z : A) → Contains xs z → Contains ys z
-  same_later x y xs ys same before there z has = elim (cons_has y z ys (there z (later_has x z xs has))) [
+  same_later x y xs ys same before there z has = elim (has-cases y z ys (there z (has-later x z xs has))) [
     | inl first ↦
-        let less : order x z ≡ Less = each_has (λ z. order x z ≡ Less) xs before z has in
+        let less : order x z ≡ Less = each-has (λ z. order x z ≡ Less) xs before z has in
         let less' : order x x ≡ Less = subst (λ z. order x z ≡ Less) (let is : z ≡ x = cc (first, same) in is) less in
         absurd (one_way x x less' less')
     | inr later ↦ later
@@ -60,10 +47,10 @@ module _ {A : Type 0} (order : A → A → Ordering) (total : IsTotalOrder order
       → ((z : A) → Contains xs z → Contains ys z) → ((z : A) → Contains ys z → Contains xs z) → xs ≡ ys
   unfolding IsStrictlySortedBy
   same_sorted [] [] sorted sorted' there back = refl
-  same_sorted [] (y ∷ ys) sorted sorted' there back = sym (none_has (y ∷ ys) (λ z has. let (k, lt, is) = back z has in omega (arith, lt)))
-  same_sorted (x ∷ xs) [] sorted sorted' there back = none_has (x ∷ xs) (λ z has. let (k, lt, is) = there z has in omega (arith, lt))
+  same_sorted [] (y ∷ ys) sorted sorted' there back = sym (empty-none (y ∷ ys) (λ z has. let (k, lt, is) = back z has in omega (arith, lt)))
+  same_sorted (x ∷ xs) [] sorted sorted' there back = empty-none (x ∷ xs) (λ z has. let (k, lt, is) = there z has in omega (arith, lt))
   same_sorted (x ∷ xs) (y ∷ ys) sorted sorted' there back =
-      let first : x ≡ y = same_first x y xs ys sorted.0 sorted'.0 (there x (first_has x xs)) (back y (first_has y ys)) in
+      let first : x ≡ y = same_first x y xs ys sorted.0 sorted'.0 (there x (has-first x xs)) (back y (has-first y ys)) in
       let rest : xs ≡ ys =
       same_sorted xs ys sorted.1 sorted'.1 (same_later x y xs ys first sorted.0 there)
       (same_later y x ys xs (sym first) sorted'.0 back) in

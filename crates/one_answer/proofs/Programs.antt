@@ -6,6 +6,7 @@ use Rattle.std.specs.Cmp.{IsTotalOrder}
 use Rattle.std.proofs.lemmas.Cmp.{on_total, nat_list_cmp_total}
 use Rattle.std.proofs.lemmas.List.Concat.{flat_map-append}
 use Rattle.std.proofs.lemmas.List.Elements.{Contains-append_left, Contains-append_right}
+use Rattle.list_lemmas.proofs.Members.{has-first, each-has}
 use Rattle.elf_spec.specs.Image.{Image}
 use Rattle.transition_spec.specs.Layer.{AreLayersFrom, all_of}
 use Rattle.flow_spec.specs.declared.fault.FlowFault.{FlowFault}
@@ -14,9 +15,7 @@ use Rattle.flow_spec.specs.Configuration.{Configuration, start_of}
 use Rattle.flow_spec.specs.Order.{configuration_cmp, numbers_of}
 use Rattle.flow_spec.specs.Successors.{Successors}
 use Rattle.flow_spec.specs.Acceptance.{Step, IsFaultless, IsAccepted, IsFirstFaulty, PassesLimit, IsRefused}
-use Rattle.report_lines.proofs.Words.{first_has}
 use Rattle.call_expand.proofs.Zipped.{all-front, all-back}
-use Rattle.one_answer.proofs.Listed.{each_has}
 use Rattle.one_answer.proofs.Layers.{EndsWithin, none_from, meet}
 
 -- the order of configurations is total
@@ -34,7 +33,7 @@ all_none (layer ∷ layers) none = cc (none.0, all_none layers none.1)
 
 -- a configuration in the middle of some
 in_middle : (before after : List Configuration) (c : Configuration) → Contains (before ++ c ∷ after) c
-in_middle before after c = Contains-append_right before (c ∷ after) c (first_has c after)
+in_middle before after c = Contains-append_right before (c ∷ after) c (has-first c after)
 
 module _ (step : Step) where
   -- a faultless configuration has no fault
@@ -45,7 +44,7 @@ module _ (step : Step) where
   -- no faulty one is among faultless ones
   faulty_among : (cs : List Configuration) (c : Configuration) (fault : FlowFault) → AllByRecursion (IsFaultless step) cs → Contains cs c
       → step c ≡ Err fault → ⊥
-  faulty_among cs c fault all has faulty = no_fault c fault (step c) refl (each_has (IsFaultless step) cs all c has) faulty
+  faulty_among cs c fault all has faulty = no_fault c fault (step c) refl (each-has (IsFaultless step) cs all c has) faulty
 
   -- the first faulty one is one, by the first of both lists
   first_faulty : (before before' after after' : List Configuration) (c c' : Configuration) (fault fault' : FlowFault)
@@ -55,10 +54,10 @@ module _ (step : Step) where
       let one : c ≡ c' = cc same in cc (one, faulty, faulty')
   first_faulty [] (b ∷ before') after after' c c' fault fault' same all all' faulty faulty' =
       let one : c ≡ b = cc same in
-      absurd (faulty_among (b ∷ before') c fault all' (subst (λ d. Contains (b ∷ before') d) (sym one) (first_has b before')) faulty)
+      absurd (faulty_among (b ∷ before') c fault all' (subst (λ d. Contains (b ∷ before') d) (sym one) (has-first b before')) faulty)
   first_faulty (b ∷ before) [] after after' c c' fault fault' same all all' faulty faulty' =
       let one : b ≡ c' = cc same in
-      absurd (faulty_among (b ∷ before) c' fault' all (subst (λ d. Contains (b ∷ before) d) one (first_has b before)) faulty')
+      absurd (faulty_among (b ∷ before) c' fault' all (subst (λ d. Contains (b ∷ before) d) one (has-first b before)) faulty')
   first_faulty (b ∷ before) (b' ∷ before') after after' c c' fault fault' same all all' faulty faulty' =
       let rest : before ++ c ∷ after ≡ before' ++ c' ∷ after' = cc same in
       first_faulty before before' after after' c c' fault fault' rest all.1 all'.1 faulty faulty'

@@ -1,6 +1,7 @@
 -- A way names at most one path of a program.
 use Rattle.std.proofs.Common.{◌≡◌, ℕ, List, [], ◌∷◌, ◌++◌, length, refl, ap, sym, ◌∙◌, subst, arith, inl, inr, append_assoc}
 use Rattle.std.specs.Prelude.{Bool, true, false, Contains, Result, Ok, Err, IsOkAnd, if◌then◌else◌}
+use Rattle.list_lemmas.proofs.Members.{has-none, has-cases}
 use Rattle.elf_spec.specs.Image.{Image}
 use Rattle.transition_spec.specs.declared.way.Way.{Way}
 use Rattle.transition_spec.specs.Path.{IsSuccessor, IsPath, IsLetter, HasChoices}
@@ -12,15 +13,10 @@ use Rattle.flow_spec.specs.declared.frame.Frame.{Frame}
 use Rattle.flow_spec.specs.Configuration.{Configuration, configuration, start_of}
 use Rattle.flow_spec.specs.Next.{Going, next_at}
 use Rattle.flow_spec.specs.Successors.{successors, successors_by, leads_to, is_open, newest}
-use Rattle.report_lines.proofs.Words.{cons_has}
 
 -- no state has three successors
 abbrev AreFew : {C F : Type 0} → (C → Result (List C) F) → Type 0
 AreFew {C} step = (c first second third : C) (others : List C) → step c ≡ Ok (first ∷ second ∷ third ∷ others) → ⊥
-
--- an empty list contains nothing
-nothing_in : {A : Type 0} (x : A) → Contains [] x → ⊥
-nothing_in x (k, lt, is) = omega (arith, lt)
 
 -- lists that begin with different letters are different
 apart : (a b : ℕ) (xs ys : List ℕ) → a ∷ xs ≡ b ∷ ys → (a ≡ b → ⊥) → ⊥
@@ -37,12 +33,12 @@ module _ {C F : Type 0} (step : C → Result (List C) F) (start : C) (few : AreF
       → IsOkAnd next (λ successors. Contains successors d) → IsOkAnd next (λ successors. Contains successors d')
       → IsLetter next d letter → IsLetter next d' letter' → letter ++ rest ≡ letter' ++ rest' → (d ≡ d') × (letter ≡ letter')
   one_move c d d' letter letter' rest rest' (Err fault) goes leads leads' is is' same = absurd leads
-  one_move c d d' letter letter' rest rest' (Ok []) goes leads leads' is is' same = absurd (nothing_in d leads)
+  one_move c d d' letter letter' rest rest' (Ok []) goes leads leads' is is' same = absurd (has-none d leads)
   one_move c d d' letter letter' rest rest' (Ok (first ∷ [])) goes leads leads' is is' same =
-      elim (cons_has first d [] leads) [
-        | inr none ↦ absurd (nothing_in d none)
-        | inl at ↦ elim (cons_has first d' [] leads') [
-          | inr none ↦ absurd (nothing_in d' none)
+      elim (has-cases first d [] leads) [
+        | inr none ↦ absurd (has-none d none)
+        | inl at ↦ elim (has-cases first d' [] leads') [
+          | inr none ↦ absurd (has-none d' none)
           | inl at' ↦ (cc (at, at'), cc (is, is'))
         ]
       ]

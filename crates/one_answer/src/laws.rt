@@ -10,7 +10,7 @@ ghost use Rattle.flow_spec.specs.declared.fault.FlowFault.{FlowFault};
 ghost use Rattle.flow_spec.specs.Acceptance.{Step, IsAccepted, IsRefused};
 ghost use Rattle.flow_spec.specs.Configuration.{Configuration, start_of};
 ghost use Rattle.flow_spec.specs.Successors.{successors};
-ghost use Rattle.node_spec.specs.Blocks.{HaveFewInAll, HaveMany};
+ghost use Rattle.focus_spec.specs.Blocks.{HaveFewInAll, HaveMany};
 ghost use Rattle.report_spec.specs.Graph.{IsGraphText};
 ghost use Rattle.report_spec.specs.Report.{IsReport};
 ghost use Rattle.one_answer.specs.Alike.{AreAlikeTexts};

@@ -54,6 +54,11 @@ pub node-from_successor : (nodes : List Node) (n m : ℕ) → IsSuccessor (graph
     → (node : Node) × (slice_get nodes n ≡ Some node) × LeadsTo node m
 node-from_successor nodes n m inside = node_of (slice_get nodes n) m inside
 
+-- the same of a node that is known
+pub leads-from_successor : (nodes : List Node) (n m : ℕ) (node : Node) → slice_get nodes n ≡ Some node → IsSuccessor (graph_step nodes) n m → LeadsTo node m
+leads-from_successor nodes n m node found inside =
+    leads_of node m (subst (λ (o : Option Node). IsOkAnd (successors o) (λ s. Contains s m)) found inside)
+
 -- where all nodes are fit, each is
 pub fit_at : (nodes : List Node) (count n : ℕ) (node : Node) → IsTrue (list_all (is_fit count) nodes) → slice_get nodes n ≡ Some node → IsTrue (is_fit count node)
 fit_at [] count n node fit found = absurd (cc)

@@ -1,5 +1,5 @@
 -- Flow graphs. A node is numbered by its place in the list of nodes, from 0 on.
-use Rattle.std.specs.Prelude.{ℕ, ◌<◌, ◌≤◌, Bool, true, false, not, ◌&&◌, ◌==◌, nat_lt, IsTrue, List, ◌++◌, length, Option, Some, None, Result, Ok, Err, slice_get}
+use Rattle.std.specs.Prelude.{ℕ, ◌<◌, ◌≤◌, Bool, true, false, not, ◌&&◌, ◌==◌, nat_lt, IsTrue, List, ◌++◌, length, map, Option, Some, None, Result, Ok, Err, slice_get}
 use Rattle.std.specs.List.{list_all}
 use Rattle.std.specs.Option.{option_to_list}
 use Rattle.transition_spec.specs.Path.{IsSuccessor}
@@ -22,6 +22,10 @@ address (Some node) = node.at
 -- the address that the node with this number fetches
 abbrev pub address_of : List Node → ℕ → ℕ
 address_of nodes n = address (slice_get nodes n)
+
+-- the addresses that the nodes fetch, one for each node
+abbrev pub addresses_of : List Node → List ℕ
+addresses_of nodes = map (λ (node : Node). node.at) nodes
 
 -- two successors are below the count: a second one only behind a first, and another than it
 abbrev pub are_fit : ℕ → Option ℕ → Option ℕ → Bool

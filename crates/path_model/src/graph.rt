@@ -1,8 +1,8 @@
 // Flow graphs: nodes with up to two successors.
-ghost use Rattle.std.specs.Prelude.{◌≡◌, ℕ, ◌<◌, ◌≤◌, ◌↔◌, List, ◌∷◌, length, slice_get, slice_index_or, true, false, IsTrue, IfSome, OnSome, IfNone};
+ghost use Rattle.std.specs.Prelude.{◌≡◌, ℕ, ◌<◌, ◌≤◌, ◌↔◌, List, ◌∷◌, length, slice_index_or, true, false, IsTrue, IfSome, OnSome, IfNone};
 ghost use Rattle.std.specs.List.{list_all};
 ghost use Rattle.transition_spec.specs.Path.{IsPath, IsSuccessor};
-ghost use Rattle.path_model.specs.Graph.{IsGraph, graph_step, are_fit, is_fit, address_of};
+ghost use Rattle.path_model.specs.Graph.{IsGraph, graph_step, are_fit, is_fit};
 ghost use Rattle.path_model.specs.Marks.{AreMarked, MarksOne, IsMarked};
 
 use std::marker::Model;

@@ -1,5 +1,5 @@
 // The paths of a graph from node 0, first member first.
-ghost use Rattle.std.specs.Prelude.{◌≡◌, ℕ, ◌==◌, ◌++◌, ◌<◌, if◌then◌else◌, List, length, map, reverse, slice_get, IfOk, OnOk};
+ghost use Rattle.std.specs.Prelude.{◌≡◌, ◌==◌, ◌++◌, ◌<◌, if◌then◌else◌, map, reverse, slice_get, IfOk, OnOk};
 ghost use Rattle.std.specs.Option.{option_to_list};
 ghost use Rattle.transition_spec.specs.Path.{IsPath, HasChoices};
 ghost use Rattle.cache_spec.specs.Geometry.{block_of, set_of};

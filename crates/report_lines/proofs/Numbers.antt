@@ -4,6 +4,7 @@ use Rattle.std.specs.Prelude.{Bool, true, false, nat_lt, if◌then◌else◌, sl
 use Rattle.std.proofs.lemmas.Bool.Decides.{nat_tests}
 use Rattle.std.proofs.lemmas.Option.{slice_get_within, get_or_from_slice_get}
 use Rattle.std.proofs.lemmas.Slice.Zip.{AllZip-long}
+use Rattle.list_lemmas.proofs.Members.{found-inside}
 use Rattle.elf_spec.specs.Image.{Image}
 use Rattle.cache_spec.specs.Geometry.{Geometry}
 use Rattle.flow_spec.specs.Configuration.{Configuration, start_of}
@@ -15,7 +16,6 @@ use Rattle.report_spec.specs.declared.line.Verdict.{Verdict}
 use Rattle.report_spec.specs.Right.{IsRight}
 use Rattle.report_spec.specs.Report.{IsContextLine, AreContextLines}
 use Rattle.call_expand.specs.Expansion.{numbered}
-use Rattle.call_expand.proofs.Paths.{element}
 use Rattle.node_spec.specs.Plan.{IsLineOf, IsByNumber}
 use Rattle.report_lines.specs.Findings.{AreFindings}
 use Rattle.report_lines.specs.Lines.{AreAllFrom}
@@ -96,7 +96,7 @@ module _ (image : Image) (entry : ℕ) (g : Geometry) (configurations : List Con
   -- each number of a configuration has its line
   line_there : (k : ℕ) → k < length configurations → (line : Line) × IsLineOf configurations verdicts k line
   line_there k below =
-      let (c, is_c) = element configurations k below in
+      let (c, is_c) = found-inside configurations k below in
       let (v, is_v, right) = found.right k (omega (arith, below, long)) in (
         Context k c.at (length c.frames) (option_map (λ frame. frame.back) (newest c.frames)) v,
         (refl, is_v, (c, is_c, refl, refl, refl)),

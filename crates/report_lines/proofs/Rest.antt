@@ -3,6 +3,7 @@ use Rattle.std.proofs.Common.{◌≡◌, ℕ, zero, suc, ◌+◌, ◌*◌, ◌^�
 use Rattle.std.specs.Prelude.{Bool, true, false, ◌==◌, ◌⊎◌, Contains, IsTrue, IsFalse, slice_get}
 use Rattle.std.specs.List.{AllByRecursion}
 use Rattle.std.proofs.lemmas.Bool.Decides.{nat_tests}
+use Rattle.list_lemmas.proofs.Members.{has-first, has-later}
 use Rattle.elf_spec.specs.Image.{Image}
 use Rattle.elf_spec.specs.Word.{is_text, IsText, IsNextText}
 use Rattle.transition_spec.specs.declared.way.Way.{Way}
@@ -20,7 +21,7 @@ use Rattle.report_spec.specs.Report.{range_addresses}
 use Rattle.node_spec.specs.Plan.{IsNodeAt, NamesPathTo, IsHitWay, IsMissWay, IsMerged, IsBare, IsBareRange, IsLineAt, IsByAddress, last_of}
 use Rattle.report_lines.specs.Findings.{IsWithin}
 use Rattle.report_lines.specs.Lines.{AreAllFrom}
-use Rattle.report_lines.proofs.Words.{first_has, later_has, range_begins, range_alone}
+use Rattle.report_lines.proofs.Words.{range_begins, range_alone}
 
 -- each path has choices
 choices_there : (nodes : List Node) (path : List ℕ) → IsPath (graph_step nodes) 0 path
@@ -196,7 +197,7 @@ module _ (image : Image) (within : IsWithin image) where
         0,
         omega arith,
         record {
-          ends = subst (λ (xs : List ℕ). Contains xs p) (sym (range_alone p)) (first_has p []);
+          ends = subst (λ (xs : List ℕ). Contains xs p) (sym (range_alone p)) (has-first p []);
           words = subst (λ (xs : List ℕ). AllByRecursion (IsBare image nodes) xs) (sym (range_alone p)) (bare, tt);
           greatest = ends;
         },
@@ -208,7 +209,7 @@ module _ (image : Image) (within : IsWithin image) where
             suc n,
             omega (arith, at),
             record {
-              ends = subst (λ (xs : List ℕ). Contains xs last) (sym more) (later_has p last (range_addresses (p + 4) last) range.ends);
+              ends = subst (λ (xs : List ℕ). Contains xs last) (sym more) (has-later p last (range_addresses (p + 4) last) range.ends);
               words = subst (λ (xs : List ℕ). AllByRecursion (IsBare image nodes) xs) (sym more) (bare, range.words);
               greatest = range.greatest;
             },

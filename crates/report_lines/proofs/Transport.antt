@@ -18,7 +18,7 @@ use Rattle.report_spec.specs.Report.{IsAt, IsUnreached}
 use Rattle.report_spec.specs.declared.line.Verdict.{Verdict}
 use Rattle.report_spec.specs.declared.line.Verdict.TheVariants.{AlwaysHit, AlwaysMiss, Unknown}
 use Rattle.call_expand.specs.Expansion.{IsGraphOf, numbered}
-use Rattle.call_expand.proofs.Paths.{path_to, path_from, choices_to, path_addresses, node_at, member_inside, element}
+use Rattle.call_expand.proofs.Paths.{address_at, path_to, path_from, choices_to, path_addresses, member_inside}
 use Rattle.focus_spec.specs.Fate.{path_hits, AllEnd, NamesEnd}
 use Rattle.node_spec.specs.Verdict.{IsNodeVerdict, IsRightAt}
 use Rattle.node_spec.specs.Plan.{IsNodeAt, IsHitWay, IsMissWay, IsMerged}
@@ -109,20 +109,14 @@ verdict_is nodes g verdicts n verdict right is =
 module _ (image : Image) (entry : ℕ) (g : Geometry) (configurations : List Configuration) (nodes : List Node) (verdicts : List Verdict)
     (is : IsGraphOf (successors image entry) entry configurations nodes)
     (right : (n : ℕ) → n < length nodes → IsRightAt nodes g verdicts n) where
-  -- a node fetches the address of its configuration
-  address_at : (n : ℕ) → n < length nodes → address_of nodes n ≡ (numbered configurations n).at
-  address_at n inside =
-      let node = element nodes n inside in
-      ap address node.1 ∙ (node_at (successors image entry) entry configurations nodes is n node.0 node.1).at
-
   -- the configuration of a node is at the node's address
   at_address : (address n : ℕ) → IsNodeAt nodes address n → (numbered configurations n).at ≡ address
-  at_address address n here = sym (address_at n here.inside) ∙ here.at
+  at_address address n here = sym (address_at (successors image entry) entry configurations nodes is n here.inside) ∙ here.at
 
   -- the node of a configuration at an address is there
   node_there : (address n : ℕ) → n < length nodes → (numbered configurations n).at ≡ address → IsNodeAt nodes address n
   node_there address n inside at =
-      record { inside = inside; at = address_at n inside ∙ at }
+      record { inside = inside; at = address_at (successors image entry) entry configurations nodes is n inside ∙ at }
 
   -- the way to a hit at an address names a path that hits
   hit_way : (address : ℕ) (way : Way) → IsHitWay nodes verdicts address way → NamesFate image entry g (IsAt address) way true

@@ -3,6 +3,7 @@ use Rattle.std.proofs.Common.{◌≡◌, ℕ, suc, ◌<◌, List, [], ◌∷◌,
 use Rattle.std.specs.Prelude.{true, slice_get}
 use Rattle.std.specs.List.{list_all}
 use Rattle.std.proofs.lemmas.Bool.{and_from}
+use Rattle.std.proofs.lemmas.Option.{slice_get_within}
 use Rattle.cache_spec.specs.Geometry.{Geometry}
 use Rattle.path_model.specs.declared.graph.Node.{Node}
 use Rattle.report_spec.specs.declared.line.Verdict.{Verdict}
@@ -28,10 +29,9 @@ all_valid (v ∷ verdicts) each =
 
 -- right verdicts are valid
 pub right_valid : (nodes : List Node) (g : Geometry) (verdicts : List Verdict)
-    → ((k : ℕ) (v : Verdict) → slice_get verdicts k ≡ Some v → k < length verdicts)
     → ((n : ℕ) → n < length verdicts → IsRightAt nodes g verdicts n)
     → list_all is_valid_verdict verdicts ≡ true
-right_valid nodes g verdicts inside right = all_valid verdicts (λ k v is.
-    let (w, is_w, ok) = right k (inside k v is) in
+right_valid nodes g verdicts right = all_valid verdicts (λ k v is.
+    let (w, is_w, ok) = right k (slice_get_within verdicts k v is) in
     let same : w ≡ v = cc (is, is_w) in
     subst (λ (v : Verdict). is_valid_verdict v ≡ true) same (verdict_valid nodes g k w ok))

@@ -1,30 +1,18 @@
 -- Addresses by four, and the words of the text among them.
 use Rattle.std.proofs.Common.{◌≡◌, ℕ, zero, suc, ◌+◌, ◌-◌, ◌*◌, ◌%◌, ◌/◌, ◌<◌, ◌≤◌, List, [], ◌∷◌, ◌++◌, refl, ap, subst, sym, arith, inl, inr}
-use Rattle.std.specs.Prelude.{Bool, true, false, ◌==◌, ◌⊎◌, Contains, slice_index_or}
+use Rattle.std.specs.Prelude.{Bool, true, false, ◌==◌, Contains, slice_index_or}
 use Rattle.std.specs.List.{AllByRecursion}
 use Rattle.std.specs.List.Sorted.{IsStrictlyIncreasing}
 use Rattle.std.proofs.lemmas.Bool.Decides.{nat_tests}
+use Rattle.list_lemmas.proofs.Members.{has-first, has-later, has-cases}
 use Rattle.elf_spec.specs.Image.{Image}
 use Rattle.elf_spec.specs.Word.{word_at, is_text, IsText}
 use Rattle.report_spec.specs.Report.{words_from, range_addresses}
 
--- a list contains its first element
-pub first_has : {A : Type 0} (x : A) (xs : List A) → Contains (x ∷ xs) x
-first_has x xs = (0, omega arith, refl)
-
--- and each element behind
-pub later_has : {A : Type 0} (x y : A) (xs : List A) → Contains xs y → Contains (x ∷ xs) y
-later_has x y xs (k, lt, is) = (suc k, omega arith, is)
-
--- and no other
-pub cons_has : {A : Type 0} (x y : A) (xs : List A) → Contains (x ∷ xs) y → (y ≡ x) ⊎ Contains xs y
-cons_has x y xs (zero, lt, is) = inl (sym is)
-cons_has x y xs (suc k, lt, is) = inr (k, omega arith, is)
-
 -- a number below all of a rising list comes before it
 pub rising_cons : (x : ℕ) (xs : List ℕ) → IsStrictlyIncreasing xs → ((y : ℕ) → Contains xs y → x < y) → IsStrictlyIncreasing (x ∷ xs)
 rising_cons x [] rising below k inside = absurd (omega (arith, inside))
-rising_cons x (y ∷ xs) rising below zero inside = below y (first_has y xs)
+rising_cons x (y ∷ xs) rising below zero inside = below y (has-first y xs)
 rising_cons x (y ∷ xs) rising below (suc k) inside =
     let next : suc k + 1 ≡ suc (k + 1) = omega arith in
     subst (λ (i : ℕ). slice_index_or (y ∷ xs) k 0 < slice_index_or (x ∷ y ∷ xs) i 0) (sym next) (rising k (omega (arith, inside)))
@@ -42,7 +30,7 @@ text_aligned image p text = whole_word image p (p % 4 == 0) refl text
 -- a word among addresses by four has its place
 pub word_place : (p n x : ℕ) → Contains (words_from p n) x → (i : ℕ) × (i < n) × (x ≡ p + 4 * i)
 word_place p zero x (k, lt, is) = absurd (omega (arith, lt))
-word_place p (suc n) x has = elim (cons_has p x (words_from (p + 4) n) has) [
+word_place p (suc n) x has = elim (has-cases p x (words_from (p + 4) n) has) [
   | inl same ↦ (0, omega arith, omega (arith, same))
   | inr later ↦ let (i, below, at) = word_place (p + 4) n x later in (suc i, omega (arith, below), omega (arith, at))
 ]
@@ -57,7 +45,7 @@ pub record IsListed (image : Image) (from : ℕ) (words : List ℕ) : Type 0 whe
 listed_word : (image : Image) (p : ℕ) (words : List ℕ) → IsText image p → IsListed image (p + 4) words → IsListed image p (p ∷ words)
 listed_word image p words text listed = record {
   rising = rising_cons p words listed.rising (λ y has. let at = (listed.sound y has).1 in omega (arith, at));
-  sound = λ x has. elim (cons_has p x words has) [
+  sound = λ x has. elim (has-cases p x words has) [
     | inl same ↦ (subst (IsText image) (sym same) text, omega (arith, same))
     | inr later ↦ let it = listed.sound x later in (it.0, omega (arith, it.1))
   ];
@@ -65,12 +53,12 @@ listed_word image p words text listed = record {
 } where
   by_test : (x : ℕ) → IsText image x → p ≤ x → (same : Bool) → (x == p) ≡ same → Contains (p ∷ words) x
   by_test x x_text from true is =
-      let same : x ≡ p = grind (arith, nat_tests, is) in subst (λ (y : ℕ). Contains (p ∷ words) y) (sym same) (first_has p words)
+      let same : x ≡ p = grind (arith, nat_tests, is) in subst (λ (y : ℕ). Contains (p ∷ words) y) (sym same) (has-first p words)
   by_test x x_text from false is =
       let other : p < x = grind (arith, nat_tests, is, from) in
       let whole = text_aligned image p text in
       let x_whole = text_aligned image x x_text in
-      later_has p x words (listed.complete x x_text (omega (arith, other, whole, x_whole)))
+      has-later p x words (listed.complete x x_text (omega (arith, other, whole, x_whole)))
 
 -- words that are all in the text, in front of those behind them
 pub listed_words : (image : Image) (p n : ℕ) (words : List ℕ) → AllByRecursion (IsText image) (words_from p n)

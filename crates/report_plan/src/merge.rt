@@ -1,5 +1,5 @@
 // The one verdict of the nodes at an address.
-ghost use Rattle.std.specs.Prelude.{◌≡◌, ℕ, ◌<◌, List, length, IsTrue, IfOk, IfSome, IfNone};
+ghost use Rattle.std.specs.Prelude.{◌≡◌, ℕ, ◌<◌, length, IsTrue, IfOk, IfSome, IfNone};
 ghost use Rattle.std.specs.List.{Contains};
 ghost use Rattle.report_spec.specs.Valid.{is_valid_way, is_valid_verdict};
 ghost use Rattle.node_spec.specs.Plan.{IsMerged, IsNodeAt};

@@ -1,5 +1,5 @@
 // The order of the nodes, and the line at a place.
-ghost use Rattle.std.specs.Prelude.{◌≡◌, ◌<◌, ◌≤◌, length, true, false, option_map, IfOk, IfSome};
+ghost use Rattle.std.specs.Prelude.{◌≡◌, ◌<◌, length, true, false, option_map, IfOk, IfSome};
 ghost use Rattle.elf_spec.specs.Word.{IsText};
 ghost use Rattle.node_spec.specs.Plan.{IsByAddress, IsByNumber, IsLineAt, IsLineOf, last_of};
 ghost use Rattle.report_plan.specs.Kept.{IsPlanOf};

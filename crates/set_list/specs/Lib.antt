@@ -1,2 +1,3 @@
 pub mod SetList
 pub mod Rising
+pub mod RisingSets

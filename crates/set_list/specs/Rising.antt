@@ -1,11 +1,11 @@
 -- What an insert leaves of a list in which each element stands in a relation to all later ones.
-use Rattle.std.proofs.Common.{◌≡◌, ℕ, ◌+◌, ◌-◌, ◌<◌, ◌≤◌, ◌↔◌, ◌⊎◌, inl, inr, List, [], ◌∷◌, length, get_or, suc, zero, sym, ap, subst, ◌∙◌, arith}
+use Rattle.std.proofs.Common.{◌≡◌, ℕ, ◌+◌, ◌-◌, ◌<◌, ◌≤◌, ◌↔◌, ◌⊎◌, inl, inr, List, ◌∷◌, length, get_or, sym, ap, subst, ◌∙◌, arith}
 use Rattle.std.proofs.lemmas.Bool.{cases_lt}
 use Rattle.std.proofs.lemmas.List.Edits.{length-insert, get_or-insert_below, get_or-insert_at, get_or-insert_above}
-use Rattle.std.proofs.lemmas.List.Elements.{Contains-append_cases, Contains-append_right}
 use Rattle.std.proofs.lemmas.List.Sorted.{IsPermutation-insert, IsPermutation-sym, Contains-permutation}
 use Rattle.std.specs.List.{Contains, AllPairs, insert}
 use Rattle.std.specs.List.Sorted.{IsStrictlyIncreasing}
+use Rattle.list_lemmas.proofs.Members.{has-later, has-cases}
 
 -- a relation at equal elements
 related : {X : Type 0} (R : X → X → Type 0) (a b c d : X) → a ≡ c → b ≡ d → R c d → R a b
@@ -41,16 +41,11 @@ AllPairs-insert R xs i y within pairs below above j k d before inside =
       ]
     ]
 
--- what a list of one element contains
-Contains-one : {X : Type 0} (x y : X) → Contains (x ∷ []) y → y ≡ x
-Contains-one x y (zero, within, same) = sym same
-Contains-one x y (suc k, within, same) = absurd (omega (arith, within))
-
 -- what a list contains with an element in front
 pub Contains-front : {X : Type 0} (x : X) (xs : List X) (y : X) → Contains (x ∷ xs) y ↔ (Contains xs y ⊎ (y ≡ x))
 Contains-front x xs y = (
-  λ there. elim (Contains-append_cases (x ∷ []) xs y there) [ inl first ↦ inr (Contains-one x y first) | inr rest ↦ inl rest ],
-  λ either. elim either [ inl rest ↦ Contains-append_right (x ∷ []) xs y rest | inr same ↦ (0, omega arith, sym same) ],
+  λ there. elim (has-cases x y xs there) [ inl same ↦ inr same | inr rest ↦ inl rest ],
+  λ either. elim either [ inl rest ↦ has-later x y xs rest | inr same ↦ (0, omega arith, sym same) ],
 )
 
 -- what a list with one more element contains

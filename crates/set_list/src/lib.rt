@@ -1,8 +1,8 @@
 //! A finite set of numbers of 16 bits, as a list that rises.
 //!
-//! `SetList` is seen as the list of its numbers, rising and so without repeats. It stands on std alone. Its contract
-//! gives the layer above each operation on sets as a fact on what the lists contain, and an order in which sets can be
-//! kept, where a front of a set comes before it.
+//! `SetList` is seen as the list of its numbers, rising and so without repeats. It stands on std alone, and its proofs on
+//! `list_lemmas`. Its contract gives the layer above each operation on sets as a fact on what the lists contain, and an
+//! order in which sets can be kept, where a front of a set comes before it.
 #![tactic(auto)]
 
 ghost use Rattle.std.specs.Prelude.{◌≡◌, ℕ, ◌↔◌, ◌⊎◌, List, [], length, ◌<◌, ◌≤◌, slice_index, IfOk, OnOk, IsTrue};

@@ -10,11 +10,13 @@ use Rattle.std.proofs.lemmas.List.Quantifiers.{position-Some}
 use Rattle.std.proofs.lemmas.Option.{none-some}
 use Rattle.cache_spec.specs.Geometry.{Geometry}
 use Rattle.path_model.specs.declared.graph.Node.{Node}
-use Rattle.path_model.specs.Graph.{IsGraph, address_of}
+use Rattle.path_model.specs.Graph.{IsGraph, address_of, addresses_of}
 use Rattle.focus_spec.specs.Younger.{block_in, block_limit, named, fetch_at}
-use Rattle.set_view.specs.View.{AreFetched, IsView}
+use Rattle.focus_spec.specs.Blocks.{AreBlocks}
+use Rattle.set_view.specs.View.{IsView}
 use Rattle.set_view.specs.Places.{place_of, local_at}
 use Rattle.set_view.proofs.Rising.{place_of-found}
+use Rattle.set_view.proofs.Members.{has-address}
 
 -- what node n fetches, by the block that it fetches
 pub fetch_at-map : (nodes : List Node) (blocks : List ℕ) (g : Geometry) (set n : ℕ) → n < length nodes
@@ -36,11 +38,11 @@ named-place_of blocks None rising listed = refl
 named-place_of blocks (Some block) rising listed = named-place blocks block rising (listed block refl)
 
 -- each node has the place of its block
-pub named-fetch_at : (nodes : List Node) (blocks : List ℕ) (g : Geometry) (set n : ℕ) → AreFetched nodes g set blocks → n < length nodes
+pub named-fetch_at : (nodes : List Node) (blocks : List ℕ) (g : Geometry) (set n : ℕ) → AreBlocks (addresses_of nodes) g set blocks → n < length nodes
     → option_map (named blocks) (fetch_at (map (local_at blocks g set) nodes) n) ≡ block_in g set (address_of nodes n)
 named-fetch_at nodes blocks g set n fetched within =
     ap (option_map (named blocks)) (fetch_at-map nodes blocks g set n within)
-    ∙ named-place_of blocks (block_in g set (address_of nodes n)) fetched.rising (λ block is. (fetched.members block).1 (n, within, is))
+    ∙ named-place_of blocks (block_in g set (address_of nodes n)) fetched.rising (λ block is. (fetched.members block).1 (address_of nodes n, has-address nodes n within, is))
 
 -- a place is one of the list
 place_of-within : (blocks : List ℕ) (o : Option ℕ) (place : ℕ) → option_and_then (place_of blocks) o ≡ Some place → place < length blocks
@@ -57,7 +59,7 @@ fetch_at-within nodes blocks g set n place is = ⊎_elim
 
 -- what the fetched blocks and their places make is a view
 pub view-made : (nodes : List Node) (g : Geometry) (set : ℕ) (blocks : List ℕ) (fetches : List (Option ℕ)) → IsGraph nodes → 1 ≤ g.ways → g.ways ≤ 16
-    → AreFetched nodes g set blocks → length blocks ≤ block_limit → fetches ≡ map (local_at blocks g set) nodes
+    → AreBlocks (addresses_of nodes) g set blocks → length blocks ≤ block_limit → fetches ≡ map (local_at blocks g set) nodes
     → IsView (record { nodes = nodes; geometry = g; set = set; blocks = blocks; fetches = fetches })
 view-made nodes g set blocks fetches graph some_ways few_ways fetched few made =
     let P : List (Option ℕ) → Type 0 = λ fetches. IsView (record { nodes = nodes; geometry = g; set = set; blocks = blocks; fetches = fetches }) in

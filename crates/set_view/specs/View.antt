@@ -1,11 +1,10 @@
 -- One cache set, seen over a graph: the blocks of the set that the nodes fetch, and which of them each node fetches.
-use Rattle.std.specs.Prelude.{◌≡◌, ◌↔◌, ℕ, ◌<◌, ◌≤◌, List, length, Option, Some, option_map}
-use Rattle.std.specs.List.{Contains}
-use Rattle.std.specs.List.Sorted.{IsStrictlyIncreasing}
+use Rattle.std.specs.Prelude.{◌≡◌, ℕ, ◌<◌, ◌≤◌, List, length, Option, Some, option_map}
 use Rattle.cache_spec.specs.Geometry.{Geometry}
 use Rattle.path_model.specs.declared.graph.Node.{Node}
-use Rattle.path_model.specs.Graph.{IsGraph, address_of}
+use Rattle.path_model.specs.Graph.{IsGraph, address_of, addresses_of}
 use Rattle.focus_spec.specs.Younger.{block_in, block_limit, named, fetch_at}
+use Rattle.focus_spec.specs.Blocks.{AreBlocks, HaveBlocks}
 use Rattle.set_view.specs.declared.fetched.ViewFault.{ViewFault}
 use Rattle.set_view.specs.declared.fetched.ViewFault.TheVariants.{TooManyBlocks, OutOfMemory}
 
@@ -18,25 +17,12 @@ pub record View : Type 0 where
   pub blocks : List ℕ
   pub fetches : List (Option ℕ)
 
--- some node fetches this block of the set
-abbrev pub IsFetched : List Node → Geometry → ℕ → ℕ → Type 0
-IsFetched nodes g set block = (n : ℕ) × (n < length nodes) × (block_in g set (address_of nodes n) ≡ Some block)
-
--- the blocks are exactly the fetched ones of the set, each once and rising
-pub record AreFetched (nodes : List Node) (g : Geometry) (set : ℕ) (blocks : List ℕ) : Type 0 where
-  pub rising : IsStrictlyIncreasing blocks
-  pub members : (block : ℕ) → Contains blocks block ↔ IsFetched nodes g set block
-
--- so many blocks of the set are fetched
-abbrev pub HasFetched : List Node → Geometry → ℕ → ℕ → Type 0
-HasFetched nodes g set count = (blocks : List ℕ) × AreFetched nodes g set blocks × (length blocks ≡ count)
-
 -- what holds of each view: the blocks are the fetched ones, they are few, and each node has its block's place
 pub record IsView (view : View) : Type 0 where
   pub graph : IsGraph view.nodes
   pub some_ways : 1 ≤ view.geometry.ways
   pub few_ways : view.geometry.ways ≤ 16
-  pub blocks : AreFetched view.nodes view.geometry view.set view.blocks
+  pub blocks : AreBlocks (addresses_of view.nodes) view.geometry view.set view.blocks
   pub few : length view.blocks ≤ block_limit
   pub one_each : length view.fetches ≡ length view.nodes
   pub within : (n local : ℕ) → fetch_at view.fetches n ≡ Some local → local < length view.blocks
@@ -45,5 +31,5 @@ pub record IsView (view : View) : Type 0 where
 
 -- why there is no view of the set: it has more fetched blocks than the limit, and this many; or want of memory
 abbrev pub IsFault : List Node → Geometry → ℕ → ViewFault → Type 0
-IsFault nodes g set (TooManyBlocks which count) = (which ≡ set) × (block_limit < count) × HasFetched nodes g set count
+IsFault nodes g set (TooManyBlocks which count) = (which ≡ set) × HaveBlocks (addresses_of nodes) g set count × (block_limit < count)
 IsFault nodes g set OutOfMemory = Unit {0}

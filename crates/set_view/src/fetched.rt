@@ -1,9 +1,11 @@
 // The fetched blocks of a set, and who fetches them.
-ghost use Rattle.std.specs.Prelude.{◌≡◌, ℕ, ◌<◌, ◌≤◌, length, map, vec_len, IfOk, IfErr};
+ghost use Rattle.std.specs.Prelude.{◌≡◌, ◌<◌, ◌≤◌, length, map, vec_len, IfOk, IfErr};
 ghost use Rattle.std.specs.List.{filter_map};
 ghost use Rattle.std.specs.List.Sorted.{IsStrictlyIncreasing};
+ghost use Rattle.path_model.specs.Graph.{addresses_of};
 ghost use Rattle.focus_spec.specs.Younger.{block_in, fetch_at};
-ghost use Rattle.set_view.specs.View.{IsView, IsFault, AreFetched};
+ghost use Rattle.focus_spec.specs.Blocks.{AreBlocks};
+ghost use Rattle.set_view.specs.View.{IsView, IsFault};
 ghost use Rattle.set_view.specs.Places.{place_of, local_at};
 
 use cache_geom::Geometry;
@@ -167,7 +169,7 @@ fn fetched_blocks(
     geometry: &Geometry,
     set: u32,
 ) -> Result<Vec<u32>, AllocError>
-    ensures fetched { IfOk result (λ blocks. AreFetched nodes.now geometry.now set blocks.items) }
+    ensures fetched { IfOk result (λ blocks. AreBlocks (addresses_of nodes.now) geometry.now set blocks.items) }
     ensures few { IfOk result (λ blocks. vec_len blocks ≤ length nodes.now) }
 {
     let mut blocks = blocks_of(alloc, nodes, geometry, set)?;

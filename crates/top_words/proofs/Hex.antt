@@ -1,5 +1,5 @@
 -- Texts of hexadecimal digits: what `from_str_radix` makes of them.
-use Rattle.std.proofs.Common.{◌≡◌, ◌≢◌, ◌<◌, ◌≤◌, ◌^◌, ℕ, ◌&&◌, Bool, List, [], ◌∷◌, length, true, false, Some, Result, Ok, Err, refl, ap, sym, ◌∙◌, subst, arith, get_or}
+use Rattle.std.proofs.Common.{◌≡◌, ◌≢◌, ◌<◌, ◌≤◌, ◌^◌, ℕ, List, [], ◌∷◌, length, true, Some, Result, Ok, Err, refl, ap, sym, ◌∙◌, subst, arith, get_or}
 use Rattle.std.specs.Char.{is_ascii_hexdigit, digit_value}
 use Rattle.std.specs.List.{list_all}
 use Rattle.std.specs.Str.Parse.{AllDigits, IsNumeral, digits_value, without_leading_plus, ParsesUnsigned}
@@ -8,14 +8,7 @@ use Rattle.std.proofs.Math.Nat.{pow-le-pow_right}
 use Rattle.std.proofs.lemmas.Int.Digits.{digits_value-lt}
 use Rattle.std.proofs.lemmas.Str.Parse.{without_leading_plus_none}
 use Rattle.std.proofs.lemmas.Bool.Decides.{nat_tests}
-
-both_left : (a b : Bool) → (a && b) ≡ true → a ≡ true
-both_left true b both = refl
-both_left false b both = cc
-
-both_right : (a b : Bool) → (a && b) ≡ true → b ≡ true
-both_right true b both = both
-both_right false b both = cc
+use Rattle.std.proofs.lemmas.Bool.{and_parts}
 
 -- a digit's value is below 16
 hex_value : (c : ℕ) → is_ascii_hexdigit c ≡ true → digit_value c < 16
@@ -24,14 +17,14 @@ hex_value c hex = grind (arith, nat_tests)
 all_hex : (text : List ℕ) → list_all is_ascii_hexdigit text ≡ true → AllDigits 16 text
 all_hex [] hex = tt
 all_hex (c ∷ text) hex =
-    (hex_value c (both_left (is_ascii_hexdigit c) _ hex), all_hex text (both_right (is_ascii_hexdigit c) _ hex))
+    (hex_value c (and_parts (is_ascii_hexdigit c) _ hex).0, all_hex text (and_parts (is_ascii_hexdigit c) _ hex).1)
 
 -- none of them is a plus
 no_plus : (text : List ℕ) → 1 ≤ length text → list_all is_ascii_hexdigit text ≡ true → get_or text 0 0 ≢ 43
 no_plus [] some hex = absurd (omega arith)
 no_plus (c ∷ text) some hex = λ plus.
     let P : ℕ → Type 0 = λ c. is_ascii_hexdigit c ≡ true in
-    let is : is_ascii_hexdigit 43 ≡ true = subst P plus (both_left (is_ascii_hexdigit c) _ hex) in cc is
+    let is : is_ascii_hexdigit 43 ≡ true = subst P plus (and_parts (is_ascii_hexdigit c) _ hex).0 in cc is
 
 power : (n : ℕ) → n ≤ 8 → 16 ^ n ≤ 2 ^ 32
 power n below = let some : 0 < 16 = omega arith in pow-le-pow_right some below

@@ -1,4 +1,4 @@
-ghost use Rattle.std.specs.Prelude.{◌≡◌, [], ◌++◌, ◌+◌, ◌≤◌, length, decimal};
+ghost use Rattle.std.specs.Prelude.{◌≡◌, [], ◌++◌, ◌+◌, ◌≤◌, length};
 ghost use Rattle.report_spec.specs.Text.{address_text};
 ghost use Rattle.top_words.specs.FaultText.{counted, placed};
 

@@ -1,4 +1,4 @@
-ghost use Rattle.std.specs.Prelude.{◌≡◌, codes};
+ghost use Rattle.std.specs.Prelude.{◌≡◌};
 ghost use Rattle.command_spec.specs.Settings.{settings_of, classify_settings, graph_settings, geometry_in, geometry_of, number_at, entry_in};
 ghost use Rattle.top_words.specs.Views.{bytes_of};
 

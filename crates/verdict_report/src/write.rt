@@ -1,4 +1,4 @@
-ghost use Rattle.std.specs.Prelude.{◌≡◌, ◌++◌, ◌≤◌, length, decimal, IsTrue, OnOk, OnErr};
+ghost use Rattle.std.specs.Prelude.{◌≡◌, ◌++◌, decimal, IsTrue, OnOk, OnErr};
 ghost use Rattle.report_spec.specs.Text.{address_text, way_text, unknown_text, verdict_text, said_text, back_text, choices_text, context_text, place_text, open_text, range_text, line_text};
 ghost use Rattle.report_spec.specs.Valid.{is_valid};
 ghost use Rattle.verdict_report.specs.Extends.{Extends};

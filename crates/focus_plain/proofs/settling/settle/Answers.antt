@@ -1,8 +1,9 @@
 use Rattle.std.proofs.Common.{ℕ, map, subst}
 use Rattle.std.proofs.lemmas.List.Elements.{All-contains}
+use Rattle.list_lemmas.proofs.Members.{has-found}
 use Rattle.focus_plain.specs.Settled.{IsPlainPlace, IsFate}
 use Rattle.focus_plain.specs.Judged.{AreFetchers}
-use Rattle.focus_plain.proofs.Alike.{all_alike, slice-contains}
+use Rattle.focus_plain.proofs.Alike.{all_alike}
 use Rattle.focus_plain.proofs.settling.settle.Goals as goal
 
 pub returns-clause-alike : goal.returns-clause-alike
@@ -12,5 +13,5 @@ returns-clause-alike c = λ k place fate place_at fate_at.
     c.in_ok-places.places.items c.in_ok-fates.fates.items c.in_ok-places.ensures.nodes
     (subst (λ (b : ℕ). AreFetchers view.fetches b (map (λ fate. fate.node) c.in_ok-fates.fates.items)) c.in_ok-found.ensures.block c.in_ok-fates.ensures.nodes)
     k place fate place_at fate_at
-    (All-contains (IsPlainPlace view c.args.block) c.in_ok-places.places.items place c.in_ok-places.ensures.sets (slice-contains c.in_ok-places.places.items k place place_at))
-    (All-contains (IsFate view) c.in_ok-fates.fates.items fate c.in_ok-fates.ensures.ends (slice-contains c.in_ok-fates.fates.items k fate fate_at))
+    (All-contains (IsPlainPlace view c.args.block) c.in_ok-places.places.items place c.in_ok-places.ensures.sets (has-found c.in_ok-places.places.items k place place_at))
+    (All-contains (IsFate view) c.in_ok-fates.fates.items fate c.in_ok-fates.ensures.ends (has-found c.in_ok-fates.fates.items k fate fate_at))

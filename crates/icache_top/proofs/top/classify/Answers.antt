@@ -2,9 +2,9 @@ use Rattle.std.proofs.Common.{◌≡◌, sym, ◌∙◌, subst, length, List}
 use Rattle.std.specs.Prelude.{Ok, None, IfErr}
 use Rattle.path_model.specs.declared.graph.Node.{Node}
 use Rattle.report_spec.specs.declared.line.Verdict.{Verdict}
-use Rattle.node_spec.specs.Blocks.{HaveFewInAll}
+use Rattle.focus_spec.specs.Blocks.{HaveFewInAll}
 use Rattle.node_verdicts.specs.Verdicts.{AreRight, IsFault}
-use Rattle.node_verdicts.specs.Verdicts.{addresses_of as node_addresses}
+use Rattle.path_model.specs.Graph.{addresses_of as node_addresses}
 use Rattle.report_lines.specs.Findings.{AreFindings}
 use Rattle.icache_top.proofs.Told.{flow_told, settled_told, handed_on}
 use Rattle.icache_top.proofs.Reported.{many, findings, report_told, settled_ok, ok_at, err_weaker}

@@ -1,6 +1,6 @@
 use Rattle.std.proofs.Common.{ℕ, subst}
-use Rattle.node_spec.specs.Blocks.{HaveFew}
-use Rattle.node_verdicts.specs.Verdicts.{addresses_of}
+use Rattle.focus_spec.specs.Blocks.{HaveFew}
+use Rattle.path_model.specs.Graph.{addresses_of}
 use Rattle.node_verdicts.proofs.Counted.{few_viewed}
 use Rattle.node_verdicts.proofs.Viewed.{right_in, fault_is}
 use Rattle.node_verdicts.proofs.settle.settle_set.Goals as goal

@@ -1,6 +1,7 @@
 use Rattle.std.proofs.Common.{◌≡◌, ℕ, ◌<◌, length}
-use Rattle.node_spec.specs.Blocks.{HaveFew}
-use Rattle.node_verdicts.specs.Verdicts.{AreRightIn, addresses_of}
+use Rattle.focus_spec.specs.Blocks.{HaveFew}
+use Rattle.path_model.specs.Graph.{addresses_of}
+use Rattle.node_verdicts.specs.Verdicts.{AreRightIn}
 use Rattle.node_verdicts.proofs.verdicts.node_verdicts.Given as goal
 
 -- the first sets have few blocks, and their nodes have right verdicts

@@ -1,5 +1,4 @@
 use Rattle.std.proofs.Common.{arith}
-use Rattle.std.proofs.lemmas.Option.{slice_get_within}
 use Rattle.report_lines.proofs.Made.{report, rest}
 use Rattle.report_lines.proofs.Valid.{right_valid}
 use Rattle.report_lines.proofs.laws.report_laws.Goals as goal
@@ -10,6 +9,6 @@ returns c = record {
       report image entry g configurations nodes verdicts found contexts lines all;
   rest = λ image entry g contexts configurations nodes verdicts place found.
       rest image entry g configurations nodes verdicts found contexts place;
-  valid = λ image entry g configurations nodes verdicts found. right_valid nodes g verdicts (λ k v is. slice_get_within verdicts k v is)
+  valid = λ image entry g configurations nodes verdicts found. right_valid nodes g verdicts
       (λ n below. found.right n (omega (arith, below, found.one_each)));
 }

@@ -1,6 +1,7 @@
 use Rattle.std.proofs.Common.{arith, ap, length, map, subst, List, ◌∙◌}
 use Rattle.path_model.specs.declared.graph.Node.{Node}
-use Rattle.set_view.specs.View.{AreFetched}
+use Rattle.path_model.specs.Graph.{addresses_of}
+use Rattle.focus_spec.specs.Blocks.{AreBlocks}
 use Rattle.set_view.specs.Places.{local_at}
 use Rattle.set_view.proofs.Locals.{view-made}
 use Rattle.set_view.proofs.fetched.view.Goals as goal
@@ -13,7 +14,7 @@ pub invariant_of-result : goal.invariant_of-result
 invariant_of-result c =
     let g = c.args.geometry.now in
     let blocks = c.in_ok-blocks.blocks.items in
-    let P : List Node → Type 0 = λ nodes. AreFetched nodes g c.args.set blocks in
+    let P : List Node → Type 0 = λ nodes. AreBlocks (addresses_of nodes) g c.args.set blocks in
     let fetched = subst P c.nodes.ensures.same c.in_ok-blocks.ensures.fetched in
     view-made c.args.graph.now g c.args.set blocks c.in_ok-fetches.fetches.items c.nodes.ensures.graph
     (omega (arith, c.ways-ways.ensures.value, c.ways-ways.ensures.least)) (omega (arith, c.ways-ways.ensures.value, c.ways-ways.ensures.most)) fetched

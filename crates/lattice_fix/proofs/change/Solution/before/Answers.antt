@@ -2,9 +2,10 @@ use Rattle.std.proofs.Common.{◌≡◌, ◌<◌, length, Option, Some, None, Li
 use Rattle.std.specs.Prelude.{slice_get}
 use Rattle.std.proofs.lemmas.List.{get_or_read}
 use Rattle.std.proofs.lemmas.Option.{none-some}
+use Rattle.list_lemmas.proofs.Members.{found-inside}
 use Rattle.lattice_fix.specs.Replay.{value_at}
 use Rattle.lattice_fix.specs.Solved.{somes}
-use Rattle.lattice_fix.proofs.Filled.{slice_get-inside, length-somes, value_at-filled}
+use Rattle.lattice_fix.proofs.Filled.{length-somes, value_at-filled}
 use Rattle.lattice_fix.proofs.change.Solution.before.Given.{Over}
 use Rattle.lattice_fix.proofs.change.Solution.before.Goals as goal
 use Rattle.lattice_fix.proofs.change.Solution.before.Goals.{After-self}
@@ -28,7 +29,7 @@ unreachable-requires g d =
     let slots : List (Option g.row.V.Denot) = c.self.inside.values.items in
     let lt = inside g c in
     let within : c.args.node < length slots = omega (arith, lt, length-somes slots c.self.invariant) in
-    let value = slice_get-inside (somes slots) c.args.node lt in
+    let value = found-inside (somes slots) c.args.node lt in
     absurd (none-some value.0 (sym (sym (get_or_read slots c.args.node d.index.result.now within d.index.ensures None) ∙ d.in-None.is) ∙ (slot g c ∙ value.1)))
 
 pub returns : goal.returns

@@ -1,4 +1,4 @@
--- How many blocks of a set some addresses lie in. An analysis of a set takes so many at most.
+-- Which blocks of a set some addresses lie in, and how many. An analysis of a set takes so many at most.
 use Rattle.std.specs.Prelude.{◌≡◌, ◌↔◌, ℕ, ◌<◌, ◌≤◌, List, length, Some}
 use Rattle.std.specs.List.{Contains}
 use Rattle.std.specs.List.Sorted.{IsStrictlyIncreasing}
@@ -9,12 +9,14 @@ use Rattle.focus_spec.specs.Younger.{block_in, block_limit}
 abbrev pub LieIn : List ℕ → Geometry → ℕ → ℕ → Type 0
 LieIn addresses g set block = (address : ℕ) × Contains addresses address × (block_in g set address ≡ Some block)
 
--- the addresses lie in so many blocks of the set
-pub record HaveBlocks (addresses : List ℕ) (g : Geometry) (set count : ℕ) : Type 0 where
-  pub blocks : List ℕ
+-- these are the blocks of the set that the addresses lie in, each once and rising
+pub record AreBlocks (addresses : List ℕ) (g : Geometry) (set : ℕ) (blocks : List ℕ) : Type 0 where
   pub rising : IsStrictlyIncreasing blocks
   pub members : (block : ℕ) → Contains blocks block ↔ LieIn addresses g set block
-  pub counted : length blocks ≡ count
+
+-- the addresses lie in so many blocks of the set
+abbrev pub HaveBlocks : List ℕ → Geometry → ℕ → ℕ → Type 0
+HaveBlocks addresses g set count = (blocks : List ℕ) × AreBlocks addresses g set blocks × (length blocks ≡ count)
 
 -- they lie in no more of them than the limit
 abbrev pub HaveFew : List ℕ → Geometry → ℕ → Type 0
