@@ -11,8 +11,8 @@ use std::alloc::{AllocError, Global};
 /// them, `t` the second. Its first member stands first.
 ///
 /// `None` where there is no such path: `steps` is 0, a choice is another byte, a node without successors is met before
-/// the last member, or choices lack or are left over. The room for the whole path is taken first, so that too great a
-/// number of steps is answered at once with an error.
+/// the last member, or choices lack or are left over. The path takes room as it grows, so that `None` costs no more memory
+/// than the members before the one that has no next.
 pub fn follow(
     alloc: Global,
     graph: &Graph,
@@ -27,9 +27,9 @@ pub fn follow(
     if steps == 0 {
         return Ok(None);
     }
-    // A usize has 64 bits here, so no number of steps is cut.
-    let mut path = Vec::with_capacity(alloc, steps as usize)?;
+    let mut path = Vec::new(alloc);
     path.push(0)?;
+    // A usize has 64 bits here, so no number of steps is cut.
     walk(graph.nodes(), choices, steps as usize, path)
 }
 
