@@ -8,3 +8,6 @@ pub mod Contexts
 pub mod Reports
 pub mod Graphs
 pub mod Blocks
+pub mod InOrder
+pub mod FlatMapped
+pub mod FewOrMany

@@ -1,5 +1,5 @@
 // What is the same of every answer to a program.
-ghost use Rattle.std.specs.Prelude.{◌≡◌, ℕ, Bool, List};
+ghost use Rattle.std.specs.Prelude.{◌≡◌, ◌⊎◌, ℕ, Bool, List};
 ghost use Rattle.elf_spec.specs.Image.{Image};
 ghost use Rattle.cache_spec.specs.Geometry.{Geometry};
 ghost use Rattle.transition_spec.specs.declared.way.Way.{Way};
@@ -24,6 +24,8 @@ pub fn one_answer()
         → IsAccepted step image entry layers → IsAccepted step image entry others → all_of layers ≡ all_of others }
     ensures fault { (step : Step) (image : Image) (entry : ℕ) (fault other : FlowFault)
         → IsRefused step image entry fault → IsRefused step image entry other → fault ≡ other }
+    ensures few_or_many { (addresses : List ℕ) (g : Geometry)
+        → HaveFewInAll addresses g ⊎ ((set : ℕ) × (count : ℕ) × HaveMany addresses g set count) }
     ensures few { (addresses : List ℕ) (g : Geometry) (set count : ℕ)
         → HaveFewInAll addresses g → HaveMany addresses g set count → ⊥ }
     ensures many { (addresses : List ℕ) (g : Geometry) (set count other number : ℕ)
