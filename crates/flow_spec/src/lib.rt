@@ -6,9 +6,11 @@
 
 mod fault;
 mod frame;
+mod laws;
 mod next;
 
 pub use fault::FlowFault;
 pub use frame::Frame;
+pub use laws::order_laws;
 pub use next::Next;
 pub use riscv_spec::Link;
