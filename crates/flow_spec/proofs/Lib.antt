@@ -1,2 +1,2 @@
-mod Decided
-mod Ordered
+pub mod Decided
+pub mod Ordered

@@ -101,7 +101,7 @@ less-from_before c d (inr (same, before)) =
     (frames-less c.frames d.frames before)
 
 -- the order is total
-configurations_total : IsTotalOrder configuration_cmp
+pub configurations_total : IsTotalOrder configuration_cmp
 configurations_total = on_total numbers_of nat_list_cmp_total
 
 -- a configuration is less exactly where it comes before the other

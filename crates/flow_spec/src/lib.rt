@@ -2,6 +2,7 @@
 //!
 //! A configuration is the list of open calls and an address, so that a return leads to its own caller alone. Frames,
 //! successors, the order of faults and the limit are this project's own; the words come from `riscv_spec`.
+//! `order_laws` says by addresses and open calls which configuration comes first.
 #![tactic(auto)]
 
 mod fault;
