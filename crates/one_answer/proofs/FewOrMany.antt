@@ -3,6 +3,7 @@ use Rattle.std.proofs.Common.{◌≡◌, ℕ, zero, suc, ◌<◌, ◌≤◌, ◌
 use Rattle.std.specs.Prelude.{Contains, Option, Some, None, flat_map}
 use Rattle.std.specs.Option.{option_to_list}
 use Rattle.std.specs.Ordering.{nat_cmp}
+use Rattle.std.specs.declared.cmp.Ordering.TheVariants.{Equal}
 use Rattle.std.proofs.lemmas.Bool.{cases_lt}
 use Rattle.std.proofs.lemmas.Cmp.{nat_cmp_total}
 use Rattle.std.proofs.lemmas.Map.Keys.{IsStrictlyIncreasing-from_sorted}
@@ -34,13 +35,15 @@ module _ (addresses : List ℕ) (g : Geometry) where
         λ has.
             let (address, there, lies) = from-flat_map blocks addresses block has in
             (address, there, (has-option (block_in g set address) block).0 lies),
-        λ (address, there, lies). has-flat_map blocks addresses address block there ((has-option (block_in g set address) block).1 lies),
+        λ (address, there, lies).
+            has-flat_map blocks addresses address block there ((has-option (block_in g set address) block).1 lies),
       )
 
   -- the addresses lie in some number of blocks of the set
   have_some : (set : ℕ) → (count : ℕ) × HaveBlocks addresses g set count
   have_some set =
-      let (blocks, are) = rest_of nat_cmp nat_cmp_total (λ x y. nat_equal x y (nat_cmp x y) refl) [] (blocks_in set) in (
+      let exact = λ (x y : ℕ) (tie : nat_cmp x y ≡ Equal). nat_equal x y (nat_cmp x y) refl tie in
+      let (blocks, are) = rest_of nat_cmp nat_cmp_total exact [] (blocks_in set) in (
         length blocks,
         (
           blocks,
@@ -65,7 +68,8 @@ module _ (addresses : List ℕ) (g : Geometry) where
         let (count, have) = have_some n in
         elim (cases_lt block_limit count) [
           | inl more ↦ inr (n, count, record { inside = omega (arith, within); earlier = few; has = have; many = more })
-          | inr no_more ↦ inl (λ set sooner. below_more (HaveFew addresses g) n few (count, have, no_more) set (omega (arith, sooner)))
+          | inr no_more ↦ inl (λ set sooner.
+              below_more (HaveFew addresses g) n few (count, have, no_more) set (omega (arith, sooner)))
         ]
   ]
 

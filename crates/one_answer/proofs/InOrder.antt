@@ -19,12 +19,17 @@ pub record AreRest {A : Type 0} (order : A → A → Ordering) (seen found rest 
   pub unseen : (x : A) → Contains rest x → Contains seen x → ⊥
   pub all : (x : A) → Contains found x → Contains (seen ++ rest) x
 
-module _ {A : Type 0} (order : A → A → Ordering) (total : IsTotalOrder order) (exact : (x y : A) → order x y ≡ Equal → x ≡ y) where
+module _ {A : Type 0} (order : A → A → Ordering) (total : IsTotalOrder order)
+    (exact : (x y : A) → order x y ≡ Equal → x ≡ y) where
+  -- equal ones tie
+  tie : (x y : A) → x ≡ y → order x y ≡ Equal
+  tie x y same = cc (same, tied_itself total x)
+
   -- two are the same, or aren't
   same_or_not : (r : Ordering) (x y : A) → r ≡ order x y → (x ≡ y) ⊎ (x ≡ y → ⊥)
-  same_or_not Less x y is = inr (λ same. let tie : order x y ≡ Equal = cc (same, tied_itself total x) in absurd (cc (is, tie)))
+  same_or_not Less x y is = inr (λ same. absurd (cc (is, tie x y same)))
   same_or_not Equal x y is = inl (exact x y (sym is))
-  same_or_not Greater x y is = inr (λ same. let tie : order x y ≡ Equal = cc (same, tied_itself total x) in absurd (cc (is, tie)))
+  same_or_not Greater x y is = inr (λ same. absurd (cc (is, tie x y same)))
 
   -- a list contains an element, or doesn't
   has_or_not : (xs : List A) (y : A) → Contains xs y ⊎ (Contains xs y → ⊥)
@@ -45,7 +50,10 @@ module _ {A : Type 0} (order : A → A → Ordering) (total : IsTotalOrder order
   also-first : (k : A) (xs : List A) (y : A) → HasAlso k xs y (k ∷ xs)
   also-first k xs y = (
     λ has. elim (has-cases k y xs has) [ inl same ↦ inr same | inr later ↦ inl later ],
-    λ either. elim either [ inl old ↦ has-later k y xs old | inr same ↦ subst (Contains (k ∷ xs)) (sym same) (has-first k xs) ],
+    λ either. elim either [
+      | inl old ↦ has-later k y xs old
+      | inr same ↦ subst (Contains (k ∷ xs)) (sym same) (has-first k xs)
+    ],
   )
 
   -- at its place by its order to the first element, where that is right of the others
@@ -54,7 +62,10 @@ module _ {A : Type 0} (order : A → A → Ordering) (total : IsTotalOrder order
   also-at Less k x xs y is rest = also-first k (x ∷ xs) y
   also-at Equal k x xs y is rest = (
     λ has. inl has,
-    λ either. elim either [ inl old ↦ old | inr same ↦ subst (Contains (x ∷ xs)) (sym (same ∙ exact k x (sym is))) (has-first x xs) ],
+    λ either. elim either [
+      | inl old ↦ old
+      | inr same ↦ subst (Contains (x ∷ xs)) (sym (same ∙ exact k x (sym is))) (has-first x xs)
+    ],
   )
   also-at Greater k x xs y is rest = (
     λ has. elim (has-cases x y (insert_key order xs k) has) [
@@ -76,7 +87,8 @@ module _ {A : Type 0} (order : A → A → Ordering) (total : IsTotalOrder order
   has-insert k (x ∷ xs) y = also-at (order k x) k x xs y refl (has-insert k xs y)
 
   -- what holds of its elements and of k holds of the list with k
-  all-insert : (P : A → Type 0) (k : A) (xs : List A) → AllByRecursion P xs → P k → AllByRecursion P (insert_key order xs k)
+  all-insert : (P : A → Type 0) (k : A) (xs : List A) → AllByRecursion P xs → P k
+      → AllByRecursion P (insert_key order xs k)
   all-insert P k xs all one =
       all-from_each P (insert_key order xs k) (λ y has. elim ((has-insert k xs y).0 has) [
         | inl old ↦ each-has P xs all y old
@@ -103,7 +115,8 @@ module _ {A : Type 0} (order : A → A → Ordering) (total : IsTotalOrder order
   sorted-insert k (x ∷ xs) sorted = sorted-at (order k x) k x xs refl sorted (sorted-insert k xs sorted.1)
 
   -- one more element that was seen changes nothing
-  rest-seen : (seen found rest : List A) (x : A) → Contains seen x → AreRest order seen found rest → AreRest order seen (x ∷ found) rest
+  rest-seen : (seen found rest : List A) (x : A) → Contains seen x → AreRest order seen found rest
+      → AreRest order seen (x ∷ found) rest
   rest-seen seen found rest x old are = record {
     sorted = are.sorted;
     found_there = λ y has. has-later x y found (are.found_there y has);

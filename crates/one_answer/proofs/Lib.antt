@@ -11,3 +11,4 @@ pub mod Blocks
 pub mod InOrder
 pub mod FlatMapped
 pub mod FewOrMany
+pub mod AcceptedOrRefused

@@ -15,9 +15,12 @@ ghost use Rattle.report_spec.specs.Graph.{IsGraphText};
 ghost use Rattle.report_spec.specs.Report.{IsReport};
 ghost use Rattle.one_answer.specs.Alike.{AreAlikeTexts};
 
-/// A program is accepted or refused, with one numbering or one fault; and one set is the first with too many blocks, or
-/// none is.
+/// A program is accepted or refused, and not both, with one numbering or one fault; and no set has too many blocks, or one
+/// set is the first that has, and not both.
 pub fn one_answer()
+    ensures accepted_or_refused { (step : Step) (image : Image) (entry : ℕ)
+        → ((layers : List (List Configuration)) × IsAccepted step image entry layers)
+        ⊎ ((fault : FlowFault) × IsRefused step image entry fault) }
     ensures either { (step : Step) (image : Image) (entry : ℕ) (layers : List (List Configuration)) (fault : FlowFault)
         → IsAccepted step image entry layers → IsRefused step image entry fault → ⊥ }
     ensures numbering { (step : Step) (image : Image) (entry : ℕ) (layers others : List (List Configuration))
