@@ -5,6 +5,7 @@ pub mod Ways
 pub mod Verdicts
 pub mod Addresses
 pub mod Contexts
+pub mod Valid
 pub mod Reports
 pub mod Graphs
 pub mod Blocks
