@@ -3,4 +3,5 @@ pub mod Configuration
 pub mod Next
 pub mod Successors
 pub mod Order
+pub mod Before
 pub mod Acceptance
