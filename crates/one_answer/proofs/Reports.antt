@@ -23,7 +23,8 @@ module _ (image : Image) (entry : ℕ) (g : Geometry) where
   by_context_valid lines (layers, accepted, are) = context_lines_valid image entry g 0 (all_of layers) lines are
 
   -- two reports are alike
-  pub one_report : (contexts : Bool) (text other : List ℕ) → IsReport image entry g contexts text → IsReport image entry g contexts other
+  pub one_report : (contexts : Bool) (text other : List ℕ) → IsReport image entry g contexts text
+      → IsReport image entry g contexts other
       → AreAlikeTexts text other
   one_report true text other (lines, is, are) (others, is', are') = (
     lines,

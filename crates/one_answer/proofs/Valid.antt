@@ -26,12 +26,14 @@ range_valid : (first last : ℕ) → Contains (range_addresses first last) last 
 range_valid first last ends = let (i, below, at) = word_place first _ last ends in le-leb first last (omega (arith, at))
 
 -- where a call is open, one more is open too
-deeper : (deep : ℕ) (back : Option ℕ) → has_back_as_deep (suc deep) back ≡ true → has_back_as_deep (suc (suc deep)) back ≡ true
+deeper : (deep : ℕ) (back : Option ℕ) → has_back_as_deep (suc deep) back ≡ true
+    → has_back_as_deep (suc (suc deep)) back ≡ true
 deeper deep None has = absurd (grind (arith, nat_tests, has))
 deeper deep (Some address) has = grind (arith, nat_tests)
 
 -- there is a newest frame exactly where there are frames
-frames_valid : (frames : List Frame) → has_back_as_deep (length frames) (option_map (λ frame. frame.back) (newest frames)) ≡ true
+frames_valid : (frames : List Frame)
+    → has_back_as_deep (length frames) (option_map (λ frame. frame.back) (newest frames)) ≡ true
 frames_valid [] = refl
 frames_valid (frame ∷ []) = refl
 frames_valid (frame ∷ next ∷ frames) =
@@ -39,29 +41,37 @@ frames_valid (frame ∷ next ∷ frames) =
 
 module _ (image : Image) (entry : ℕ) (g : Geometry) where
   -- a way to a fate is valid
-  named_valid : (Ends : Configuration → Type 0) (way : Way) (hits : Bool) → NamesFate image entry g Ends way hits → is_valid_way way ≡ true
+  named_valid : (Ends : Configuration → Type 0) (way : Way) (hits : Bool) → NamesFate image entry g Ends way hits
+      → is_valid_way way ≡ true
   named_valid Ends way hits named =
       let P : List Configuration → Type 0 = λ path. Names (successors image entry) way path in
-      way_valid (successors image entry) named.ends_in.last named.ends_in.earlier way (subst P named.ends_in.path_is named.names)
+      way_valid (successors image entry) named.ends_in.last named.ends_in.earlier way
+      (subst P named.ends_in.path_is named.names)
 
   -- a right verdict is valid
-  verdict_valid : (Ends : Configuration → Type 0) (verdict : Verdict) → IsRight image entry g Ends verdict → is_valid_verdict verdict ≡ true
+  verdict_valid : (Ends : Configuration → Type 0) (verdict : Verdict) → IsRight image entry g Ends verdict
+      → is_valid_verdict verdict ≡ true
   verdict_valid Ends AlwaysHit right = refl
   verdict_valid Ends AlwaysMiss right = refl
   verdict_valid Ends (Unknown hit miss) right =
-      and_from (is_valid_way hit) (is_valid_way miss) (named_valid Ends hit true right.0) (named_valid Ends miss false right.1)
+      and_from (is_valid_way hit) (is_valid_way miss) (named_valid Ends hit true right.0)
+      (named_valid Ends miss false right.1)
 
   -- right lines by address are valid
-  pub address_lines_valid : (lines : List Line) → AllByRecursion (IsRightLine image entry g) lines → list_all is_valid lines ≡ true
+  pub address_lines_valid : (lines : List Line) → AllByRecursion (IsRightLine image entry g) lines
+      → list_all is_valid lines ≡ true
   address_lines_valid [] right = refl
   address_lines_valid (At at verdict ∷ lines) right =
-      and_from (is_valid_verdict verdict) (list_all is_valid lines) (verdict_valid (IsAt at) verdict right.0) (address_lines_valid lines right.1)
+      and_from (is_valid_verdict verdict) (list_all is_valid lines) (verdict_valid (IsAt at) verdict right.0)
+      (address_lines_valid lines right.1)
   address_lines_valid (Context node at depth back verdict ∷ lines) right = absurd right.0
   address_lines_valid (Unreachable first last ∷ lines) right =
-      and_from (nat_le first last) (list_all is_valid lines) (range_valid first last right.0.0) (address_lines_valid lines right.1)
+      and_from (nat_le first last) (list_all is_valid lines) (range_valid first last right.0.0)
+      (address_lines_valid lines right.1)
 
   -- the line of a configuration is valid
-  context_line_valid : (number : ℕ) (c : Configuration) (line : Line) → IsContextLine image entry g number c line → is_valid line ≡ true
+  context_line_valid : (number : ℕ) (c : Configuration) (line : Line) → IsContextLine image entry g number c line
+      → is_valid line ≡ true
   context_line_valid number c (At at verdict) is = absurd is
   context_line_valid number c (Unreachable first last) is = absurd is
   context_line_valid number c (Context node at depth back verdict) is =

@@ -36,4 +36,5 @@ IsTextOfValid lines text = IsTrue (list_all is_valid lines) × (text ≡ text_of
 -- the texts are those of valid lines that are alike
 abbrev pub AreAlikeTexts : List ℕ → List ℕ → Type 0
 AreAlikeTexts text other =
-    (lines : List Line) × (others : List Line) × IsTextOfValid lines text × IsTextOfValid others other × AreAlike lines others
+    (lines : List Line) × (others : List Line) × IsTextOfValid lines text × IsTextOfValid others other
+    × AreAlike lines others

@@ -23,7 +23,8 @@ verdict_valid nodes g n (Unknown hit miss) is =
     (way_valid (graph_step nodes) n is.1.earlier miss is.1.names)
 
 -- what holds of the verdict at each place holds of all
-all_valid : (verdicts : List Verdict) → ((k : ℕ) (v : Verdict) → slice_get verdicts k ≡ Some v → is_valid_verdict v ≡ true)
+all_valid : (verdicts : List Verdict) → ((k : ℕ) (v : Verdict) → slice_get verdicts k ≡ Some v
+    → is_valid_verdict v ≡ true)
     → list_all is_valid_verdict verdicts ≡ true
 all_valid [] each = refl
 all_valid (v ∷ verdicts) each =
