@@ -1,4 +1,4 @@
-ghost use Rattle.std.specs.Prelude.{◌≡◌, ℕ, ◌≤◌, IfErr, IfOk, length, map, refl};
+ghost use Rattle.std.specs.Prelude.{◌≡◌, ℕ, ◌≤◌, IfErr, IfOk, IsErr, length, map, refl};
 ghost use Rattle.std.proofs.Common.{◌∙◌, sym, subst};
 ghost use Rattle.lattice_fix.specs.Solution.{IsLeast};
 ghost use Rattle.lattice_fix.specs.Solved.{IsCause};
@@ -83,11 +83,36 @@ impl Domain for Capped {
 #[derive(Debug, Drop, PartialEq, Eq)]
 struct Empty;
 
-/// The same numbers, of which only so many are made by a transfer.
+/// What a domain is called for.
+#[derive(Clone, Copy, Debug, PartialEq, Eq)]
+enum Call {
+    Start,
+    Transfer,
+    Join,
+}
+
+/// The same numbers, with `left` calls of one kind before a stop.
 #[derive(Drop)]
 struct Metered {
     cap: u32,
+    kind: Call,
     left: u32,
+}
+
+impl Metered {
+    fn spend(&mut self, call: Call) -> Result<(), Empty>
+        ensures spends { Spends (tank_of self.old.cap self.old.left) (tank_of self.new.cap self.new.left) }
+        ensures empty { IsErr result → self.new.left ≡ 0 }
+    {
+        if call != self.kind {
+            return Ok(());
+        }
+        if self.left == 0 {
+            return Err(Empty);
+        }
+        self.left -= 1;
+        Ok(())
+    }
 }
 
 impl Domain for Metered {
@@ -116,19 +141,18 @@ impl Domain for Metered {
     ghost framework = { capped };
 
     fn start(&mut self) -> Result<u32, Empty> {
+        self.spend(Call::Start)?;
         Ok(0)
     }
 
     fn transfer(&mut self, node: u32, value: &u32) -> Result<u32, Empty> {
         let value = *value;
-        if self.left == 0 {
-            return Err(Empty);
-        }
-        self.left -= 1;
+        self.spend(Call::Transfer)?;
         Ok(value.saturating_add(node).min(self.cap))
     }
 
     fn join_into(&mut self, into: &mut u32, other: &u32) -> Result<bool, Empty> {
+        self.spend(Call::Join)?;
         if *into < *other {
             *into = *other;
             Ok(true)
@@ -346,6 +370,7 @@ fn one_visit_a_node_where_edges_lead_on(rt: HostRuntime) -> Result<(), Fail> {
         let graph = graph_of(nodes)?;
         let mut domain = Metered {
             cap: 100,
+            kind: Call::Transfer,
             left: moves,
         };
         assert!(rt; metered_numbers(alloc, &graph, &mut domain).is_ok());
@@ -354,15 +379,27 @@ fn one_visit_a_node_where_edges_lead_on(rt: HostRuntime) -> Result<(), Fail> {
     Ok(())
 }
 
+// The calls, in order: the start; transfers from node 0 along each edge, from 1, from 2, from 3 along both edges, from 1
+// and from 3 again; joins of what came from 2, of what 3 lends to 1, of what came from 1, and of what 3 lends to 4 and
+// gives to 1.
 #[test]
-fn a_stop_of_the_domain_is_handed_on(rt: HostRuntime) -> Result<(), Fail> {
+fn each_stop_of_the_domain_is_handed_on(rt: HostRuntime) -> Result<(), Fail> {
     let alloc = rt.alloc();
-    let graph = graph_of(line(alloc, 10)?)?;
-    let mut domain = Metered { cap: 100, left: 8 };
-    let stopped = match metered_numbers(alloc, &graph, &mut domain) {
-        Err(SolveFault::Stopped(stop)) => stop == Empty,
-        Ok(_) | Err(SolveFault::OutOfMemory) => false,
-    };
-    assert!(rt; stopped);
+    let graph = graph_of(meeting().to_vec(alloc)?)?;
+    for (kind, calls) in [(Call::Start, 1), (Call::Transfer, 7), (Call::Join, 5)] {
+        for left in 0..calls {
+            let mut domain = Metered { cap: 5, kind, left };
+            let result = metered_numbers(alloc, &graph, &mut domain);
+            let stopped = matches!(result, Err(SolveFault::Stopped(Empty)));
+            assert!(rt; stopped, "{kind:?} {left}");
+        }
+        let mut domain = Metered {
+            cap: 5,
+            kind,
+            left: calls,
+        };
+        assert!(rt; metered_numbers(alloc, &graph, &mut domain).is_ok());
+        assert_eq!(rt; domain.left, 0);
+    }
     Ok(())
 }

@@ -13,3 +13,7 @@ pub mod Valid
 pub mod Reports
 pub mod Graphs
 pub mod Blocks
+pub mod InOrder
+pub mod FlatMapped
+pub mod FewOrMany
+pub mod AcceptedOrRefused

@@ -1,5 +1,5 @@
 // What is the same of every answer to a program.
-ghost use Rattle.std.specs.Prelude.{◌≡◌, ◌↔◌, ℕ, Bool, List};
+ghost use Rattle.std.specs.Prelude.{◌≡◌, ◌↔◌, ◌⊎◌, ℕ, Bool, List};
 ghost use Rattle.std.specs.List.{AllByRecursion};
 ghost use Rattle.elf_spec.specs.Image.{Image};
 ghost use Rattle.cache_spec.specs.Geometry.{Geometry};
@@ -19,15 +19,20 @@ ghost use Rattle.report_spec.specs.Report.{IsReport};
 ghost use Rattle.report_spec.specs.Text.{text_of};
 ghost use Rattle.one_answer.specs.Alike.{AreAlike, AreAlikeTexts};
 
-/// A program is accepted or refused, with one numbering or one fault; and one set is the first with too many blocks, or
-/// none is.
+/// A program is accepted or refused, and not both, with one numbering or one fault; and no set has too many blocks, or one
+/// set is the first that has, and not both.
 pub fn one_answer()
+    ensures accepted_or_refused { (step : Step) (image : Image) (entry : ℕ)
+        → ((layers : List (List Configuration)) × IsAccepted step image entry layers)
+        ⊎ ((fault : FlowFault) × IsRefused step image entry fault) }
     ensures either { (step : Step) (image : Image) (entry : ℕ) (layers : List (List Configuration)) (fault : FlowFault)
         → IsAccepted step image entry layers → IsRefused step image entry fault → ⊥ }
     ensures numbering { (step : Step) (image : Image) (entry : ℕ) (layers others : List (List Configuration))
         → IsAccepted step image entry layers → IsAccepted step image entry others → all_of layers ≡ all_of others }
     ensures fault { (step : Step) (image : Image) (entry : ℕ) (fault other : FlowFault)
         → IsRefused step image entry fault → IsRefused step image entry other → fault ≡ other }
+    ensures few_or_many { (addresses : List ℕ) (g : Geometry)
+        → HaveFewInAll addresses g ⊎ ((set : ℕ) × (count : ℕ) × HaveMany addresses g set count) }
     ensures few { (addresses : List ℕ) (g : Geometry) (set count : ℕ)
         → HaveFewInAll addresses g → HaveMany addresses g set count → ⊥ }
     ensures many { (addresses : List ℕ) (g : Geometry) (set count other number : ℕ)
