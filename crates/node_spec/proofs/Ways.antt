@@ -7,8 +7,6 @@ use Rattle.std.proofs.lemmas.List.Folds.{list_all-append}
 use Rattle.transition_spec.specs.declared.way.Way.{Way}
 use Rattle.transition_spec.specs.Path.{IsLetter, HasChoices}
 use Rattle.transition_spec.specs.Named.{Names}
-use Rattle.path_model.specs.declared.graph.Node.{Node}
-use Rattle.path_model.specs.Graph.{graph_step}
 use Rattle.report_spec.specs.Valid.{is_letter, is_valid_way}
 
 -- the letter of a move is one of the two, or none
@@ -22,16 +20,19 @@ letter_valid (Ok (first ∷ second ∷ third ∷ others)) d letter is = ap (list
 letter_valid (Err fault) d letter is = ap (list_all is_letter) is
 
 -- the choices of a path are letters
-choices_valid : (nodes : List Node) (path letters : List ℕ) → HasChoices (graph_step nodes) path letters → list_all is_letter letters ≡ true
-choices_valid nodes [] letters is = ap (list_all is_letter) is
-choices_valid nodes (n ∷ []) letters is = ap (list_all is_letter) is
-choices_valid nodes (m ∷ n ∷ earlier) letters (before, letter, has, is, whole) =
+choices_valid : {C F : Type 0} (step : C → Result (List C) F) (path : List C) (letters : List ℕ) → HasChoices step path letters
+    → list_all is_letter letters ≡ true
+choices_valid step [] letters is = ap (list_all is_letter) is
+choices_valid step (c ∷ []) letters is = ap (list_all is_letter) is
+choices_valid step (d ∷ c ∷ earlier) letters (before, letter, has, is, whole) =
     ap (list_all is_letter) whole ∙ list_all-append is_letter before letter
-    ∙ and_from (list_all is_letter before) (list_all is_letter letter) (choices_valid nodes (n ∷ earlier) before has)
-    (letter_valid (graph_step nodes n) m letter is)
+    ∙ and_from (list_all is_letter before) (list_all is_letter letter) (choices_valid step (c ∷ earlier) before has)
+    (letter_valid (step c) d letter is)
 
--- a way that names a path that ends in a node is valid
-pub way_valid : (nodes : List Node) (n : ℕ) (earlier : List ℕ) (way : Way) → Names (graph_step nodes) way (n ∷ earlier) → is_valid_way way ≡ true
-way_valid nodes n earlier way names =
+-- a way that names a path of some member is valid
+pub way_valid : {C F : Type 0} (step : C → Result (List C) F) (c : C) (earlier : List C) (way : Way) → Names step way (c ∷ earlier)
+    → is_valid_way way ≡ true
+way_valid step c earlier way names =
     let some : 0 < way.steps = omega (arith, names.steps) in
-    and_from (nat_lt 0 way.steps) (list_all is_letter way.choices) (lt-ltb 0 way.steps some) (choices_valid nodes (n ∷ earlier) way.choices names.choices)
+    and_from (nat_lt 0 way.steps) (list_all is_letter way.choices) (lt-ltb 0 way.steps some)
+    (choices_valid step (c ∷ earlier) way.choices names.choices)

@@ -2,9 +2,14 @@ pub mod Listed
 pub mod Layers
 pub mod Programs
 pub mod Ways
+pub mod Tokens
+pub mod Fields
+pub mod LineTokens
+pub mod Readings
 pub mod Verdicts
 pub mod Addresses
 pub mod Contexts
+pub mod Valid
 pub mod Reports
 pub mod Graphs
 pub mod Blocks

@@ -1,5 +1,6 @@
 // What is the same of every answer to a program.
-ghost use Rattle.std.specs.Prelude.{◌≡◌, ◌⊎◌, ℕ, Bool, List};
+ghost use Rattle.std.specs.Prelude.{◌≡◌, ◌↔◌, ◌⊎◌, ℕ, Bool, List};
+ghost use Rattle.std.specs.List.{AllByRecursion};
 ghost use Rattle.elf_spec.specs.Image.{Image};
 ghost use Rattle.cache_spec.specs.Geometry.{Geometry};
 ghost use Rattle.transition_spec.specs.declared.way.Way.{Way};
@@ -11,9 +12,12 @@ ghost use Rattle.flow_spec.specs.Acceptance.{Step, IsAccepted, IsRefused};
 ghost use Rattle.flow_spec.specs.Configuration.{Configuration, start_of};
 ghost use Rattle.flow_spec.specs.Successors.{successors};
 ghost use Rattle.focus_spec.specs.Blocks.{HaveFewInAll, HaveMany};
+ghost use Rattle.report_spec.specs.declared.line.Line.{Line};
 ghost use Rattle.report_spec.specs.Graph.{IsGraphText};
+ghost use Rattle.report_spec.specs.HasText.{HasText};
 ghost use Rattle.report_spec.specs.Report.{IsReport};
-ghost use Rattle.one_answer.specs.Alike.{AreAlikeTexts};
+ghost use Rattle.report_spec.specs.Text.{text_of};
+ghost use Rattle.one_answer.specs.Alike.{AreAlike, AreAlikeTexts};
 
 /// A program is accepted or refused, and not both, with one numbering or one fault; and no set has too many blocks, or one
 /// set is the first that has, and not both.
@@ -49,4 +53,13 @@ pub fn one_text()
         → IsReport image entry g contexts text → IsReport image entry g contexts other → AreAlikeTexts text other }
     ensures graph { (image : Image) (entry : ℕ) (text other : List ℕ)
         → IsGraphText image entry text → IsGraphText image entry other → text ≡ other }
+{}
+
+/// Lines are read from their text in one way, where they are valid and their numbers fit, as those of the code do. So
+/// two texts are alike exactly where the lines that are read from them agree in all but their ways.
+pub fn one_reading()
+    ensures lines { (lines others : List Line) → AllByRecursion HasText lines → AllByRecursion HasText others
+        → text_of lines ≡ text_of others → lines ≡ others }
+    ensures alike { (lines others : List Line) → AllByRecursion HasText lines → AllByRecursion HasText others
+        → AreAlikeTexts (text_of lines) (text_of others) ↔ AreAlike lines others }
 {}

@@ -6,6 +6,7 @@ use Rattle.std.proofs.lemmas.Bool.{and_from}
 use Rattle.std.proofs.lemmas.Option.{slice_get_within}
 use Rattle.cache_spec.specs.Geometry.{Geometry}
 use Rattle.path_model.specs.declared.graph.Node.{Node}
+use Rattle.path_model.specs.Graph.{graph_step}
 use Rattle.report_spec.specs.declared.line.Verdict.{Verdict}
 use Rattle.report_spec.specs.declared.line.Verdict.TheVariants.{AlwaysHit, AlwaysMiss, Unknown}
 use Rattle.report_spec.specs.Valid.{is_valid_way, is_valid_verdict}
@@ -18,10 +19,12 @@ verdict_valid : (nodes : List Node) (g : Geometry) (n : ℕ) (verdict : Verdict)
 verdict_valid nodes g n AlwaysHit is = refl
 verdict_valid nodes g n AlwaysMiss is = refl
 verdict_valid nodes g n (Unknown hit miss) is =
-    and_from (is_valid_way hit) (is_valid_way miss) (way_valid nodes n is.0.earlier hit is.0.names) (way_valid nodes n is.1.earlier miss is.1.names)
+    and_from (is_valid_way hit) (is_valid_way miss) (way_valid (graph_step nodes) n is.0.earlier hit is.0.names)
+    (way_valid (graph_step nodes) n is.1.earlier miss is.1.names)
 
 -- what holds of the verdict at each place holds of all
-all_valid : (verdicts : List Verdict) → ((k : ℕ) (v : Verdict) → slice_get verdicts k ≡ Some v → is_valid_verdict v ≡ true)
+all_valid : (verdicts : List Verdict) → ((k : ℕ) (v : Verdict) → slice_get verdicts k ≡ Some v
+    → is_valid_verdict v ≡ true)
     → list_all is_valid_verdict verdicts ≡ true
 all_valid [] each = refl
 all_valid (v ∷ verdicts) each =

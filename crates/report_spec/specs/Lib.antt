@@ -1,5 +1,6 @@
 pub mod Text
 pub mod Valid
+pub mod HasText
 pub mod Right
 pub mod Report
 pub mod Graph

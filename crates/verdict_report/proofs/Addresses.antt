@@ -1,5 +1,5 @@
 -- The text of an address, and the address that has a text.
-use Rattle.std.proofs.Common.{◌≡◌, ℕ, zero, suc, ◌^◌, ◌<◌, Bool, true, List, ◌++◌, length, take, drop, Some, Ok, Err, Result, refl, sym, ap, ◌∙◌, arith}
+use Rattle.std.proofs.Common.{◌≡◌, ℕ, ◌^◌, ◌<◌, Bool, true, List, ◌++◌, length, take, drop, Some, Ok, Err, Result, refl, sym, ap, ◌∙◌, arith}
 use Rattle.std.specs.Prelude.{nat_le}
 use Rattle.std.specs.Str.{bytes_eq}
 use Rattle.std.specs.Int.{w32, from_be_bytes, to_be_bytes}
@@ -11,6 +11,7 @@ use Rattle.hex.specs.Hex.{decode_sized, encode_lower, lower_digits, IsBytes}
 use Rattle.hex.proofs.HexLemmas.{length-encode_with, decode_sized-encode_lower, decode_sized-twice, decode_sized-ok, decode_of-ok}
 use Rattle.hex.specs.declared.error.FromHexError.{FromHexError}
 use Rattle.report_spec.specs.Text.{address_text}
+use Rattle.report_spec.proofs.Addresses.{length-address_text, IsBytes-to_be_bytes}
 use Rattle.verdict_report.specs.Reading.{guarded, spelled, address_of, address_at}
 use Rattle.verdict_report.proofs.Steps.{bind_some, guarded_some, same_some}
 
@@ -41,19 +42,6 @@ address_of_takes front p h =
     let fits = (decode_of-ok (take 8 (drop 2 front)) b.0 (sym (decode_sized-twice (take 8 (drop 2 front)) 4 len) ∙ r)).3 in
     let is : address_text (from_be_bytes w32 b.0) ≡ front = (bytes_eq-Decides (address_text (from_be_bytes w32 b.0)) front).0 g.0 in
     (ap address_text (sym g.1) ∙ is, rw (← g.1) (from_be_bytes-small b.0 fits))
-
--- an address is written in ten bytes
-pub length-address_text : (p : ℕ) → length (address_text p) ≡ 10
-unfolding address_text
-length-address_text p = ap (λ (n : ℕ). suc (suc n)) (length-encode_with lower_digits (to_be_bytes w32 p))
-
--- the bytes of a number are bytes
-IsBytes-to_be_bytes : (p : ℕ) → IsBytes (to_be_bytes w32 p)
-IsBytes-to_be_bytes p zero = omega arith
-IsBytes-to_be_bytes p (suc zero) = omega arith
-IsBytes-to_be_bytes p (suc (suc zero)) = omega arith
-IsBytes-to_be_bytes p (suc (suc (suc zero))) = omega arith
-IsBytes-to_be_bytes p (suc (suc (suc (suc i)))) = omega arith
 
 -- the digits of an address are those of its bytes
 digits_of_address : (p : ℕ) → take 8 (drop 2 (address_text p)) ≡ encode_lower (to_be_bytes w32 p)

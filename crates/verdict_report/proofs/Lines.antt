@@ -11,7 +11,7 @@ use Rattle.report_spec.specs.Text.{address_text, said_text, range_text, context_
 use Rattle.report_spec.specs.Valid.{is_valid_verdict, has_back_as_deep}
 use Rattle.verdict_report.specs.declared.seen.Subject.{Subject}
 use Rattle.verdict_report.specs.declared.seen.Subject.TheVariants.{Address, Configuration}
-use Rattle.verdict_report.specs.HasText.{FitsVerdict, HasText, IsTextOf}
+use Rattle.report_spec.specs.HasText.{FitsVerdict, HasText, IsTextOf}
 use Rattle.verdict_report.specs.Seen.{line_with}
 use Rattle.verdict_report.specs.Reading.{after, address_at, said_at, subject_at, range_at, told_at, line_at, line_of}
 use Rattle.verdict_report.proofs.Steps.{bind_some, guarded_some, or_some, same_some, onward, nothing, after_takes, after_again}

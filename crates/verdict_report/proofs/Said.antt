@@ -8,7 +8,7 @@ use Rattle.report_spec.specs.declared.line.Verdict.{Verdict}
 use Rattle.report_spec.specs.declared.line.Verdict.TheVariants.{AlwaysHit, AlwaysMiss, Unknown}
 use Rattle.report_spec.specs.Text.{way_text, verdict_text, said_text}
 use Rattle.report_spec.specs.Valid.{is_valid_way, is_valid_verdict}
-use Rattle.verdict_report.specs.HasText.{FitsVerdict}
+use Rattle.report_spec.specs.HasText.{FitsVerdict}
 use Rattle.verdict_report.specs.Reading.{told, after, way_at, unknown_at, verdict_at, said_at}
 use Rattle.verdict_report.proofs.Steps.{bind_some, map_some, or_some, same_some, onward, onward_past, after_takes, after_again}
 use Rattle.verdict_report.proofs.Ways.{way_takes, way_again}

@@ -12,7 +12,7 @@ use Rattle.std.proofs.lemmas.Slice.Eq.{bytes_eq-Decides}
 use Rattle.transition_spec.specs.declared.way.Way.{Way}
 use Rattle.report_spec.specs.Text.{choices_text, way_text}
 use Rattle.report_spec.specs.Valid.{is_letter, is_valid_way}
-use Rattle.verdict_report.specs.HasText.{FitsWay}
+use Rattle.report_spec.specs.HasText.{FitsWay}
 use Rattle.verdict_report.specs.Reading.{guarded, word_at, number_of, number_at, small_at, choices_of, way_at}
 use Rattle.verdict_report.proofs.Steps.{bind_some, guarded_some, same_some, onward_past}
 use Rattle.verdict_report.proofs.Words.{is_free, word_takes, word_again}

@@ -2,7 +2,7 @@ ghost use Rattle.std.specs.Prelude.{◌≡◌, ℕ, ◌^◌, ◌<◌, List, [], 
 ghost use Rattle.report_spec.specs.declared.line.Line.{Line};
 ghost use Rattle.report_spec.specs.Text.{line_text};
 ghost use Rattle.report_spec.specs.Valid.{is_valid};
-ghost use Rattle.verdict_report.specs.HasText.{FitsVerdict, FitsWay, HasText};
+ghost use Rattle.report_spec.specs.HasText.{FitsVerdict, FitsWay, HasText};
 
 use crate::{Line, Verdict, Way};
 

@@ -1,6 +1,6 @@
 ghost use Rattle.std.specs.Prelude.{◌≡◌, ◌↔◌, Option, Some, IfOk};
 ghost use Rattle.report_spec.specs.declared.line.Line.{Line};
-ghost use Rattle.verdict_report.specs.HasText.{IsTextOf};
+ghost use Rattle.report_spec.specs.HasText.{IsTextOf};
 ghost use Rattle.verdict_report.specs.Seen.{way_seen, verdict_seen, line_with};
 ghost use Rattle.verdict_report.specs.Reading.{Gives, way_at, unknown_at, verdict_at, said_at, configuration_at, subject_at, range_at, line_of};
 

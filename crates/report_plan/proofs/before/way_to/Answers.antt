@@ -21,4 +21,4 @@ returns-clause-names c =
 pub returns-clause-valid : goal.returns-clause-valid
 returns-clause-valid c =
     let (earlier, path, names) = returns-clause-names c in
-    way_valid c.args.graph.now c.args.node earlier _ names
+    way_valid (graph_step c.args.graph.now) c.args.node earlier _ names
