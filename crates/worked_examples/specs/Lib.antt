@@ -7,4 +7,5 @@ pub mod Caches
 pub mod Texts
 pub mod Orders
 pub mod Ways
+pub mod Alike
 pub mod Reports

@@ -8,10 +8,12 @@ ghost use Rattle.flow_spec.specs.Configuration.{start_of};
 ghost use Rattle.flow_spec.specs.Order.{configuration_cmp};
 ghost use Rattle.flow_spec.specs.Successors.{successors};
 ghost use Rattle.flow_spec.specs.Transfer.{is_good_target};
+ghost use Rattle.one_answer.specs.Alike.{AreAlikeTexts};
 ghost use Rattle.report_spec.specs.Report.{IsReport};
 ghost use Rattle.report_spec.specs.Text.{line_text};
 ghost use Rattle.transition_spec.specs.Named.{Names};
 ghost use Rattle.transition_spec.specs.Path.{IsPath};
+ghost use Rattle.worked_examples.specs.Alike.{hit_behind, miss_behind, hit_between, miss_between, hit_by_other_ways};
 ghost use Rattle.worked_examples.specs.Caches.{geometry, worked_touches, worked_hits};
 ghost use Rattle.worked_examples.specs.Files.{two_words, two_words_image, worked_places, worked_refusals};
 ghost use Rattle.worked_examples.specs.Flows.{worked_moves, worked_calls, worked_faults, worked_targets};
@@ -59,6 +61,14 @@ pub fn worked_caches()
 /// Each kind of line has its text.
 pub fn worked_texts()
     ensures { map (λ l. line_text l.0) worked_lines ≡ map (λ l. l.1) worked_lines }
+{}
+
+/// Texts are alike where their unknown lines have other ways, and not where a verdict differs. That holds of a verdict
+/// behind an unknown line and between two: what stands behind the first one can't be taken for its choices.
+pub fn worked_alikeness()
+    ensures other_ways { AreAlikeTexts hit_between hit_by_other_ways }
+    ensures behind_unknown { AreAlikeTexts hit_behind miss_behind → ⊥ }
+    ensures between_unknown { AreAlikeTexts hit_between miss_between → ⊥ }
 {}
 
 /// Configurations are ordered by address, then by frames, of which a prefix comes first.

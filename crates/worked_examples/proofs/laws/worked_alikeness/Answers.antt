@@ -1,0 +1,63 @@
+-- The texts compute; what is read from them differs in a verdict, or in ways alone.
+use Rattle.std.proofs.Common.{◌≡◌, true, refl, lit<}
+use Rattle.std.specs.Fmt.{digits}
+use Rattle.std.specs.List.{AllByRecursion}
+use Rattle.hex.specs.Hex.{encode_with}
+use Rattle.report_spec.specs.declared.line.Verdict.{Verdict}
+use Rattle.report_spec.specs.declared.line.Verdict.TheVariants.{AlwaysHit, AlwaysMiss}
+use Rattle.report_spec.specs.HasText.{HasText, FitsVerdict}
+use Rattle.report_spec.specs.Text.{address_text, text_of}
+use Rattle.report_spec.specs.Valid.{is_valid_verdict}
+use Rattle.one_answer.proofs.Readings.{lines_alike}
+use Rattle.worked_examples.specs.Alike.{lines_behind, lines_between, lines_by_other_ways, hit_behind, miss_behind, hit_between, miss_between, hit_by_other_ways}
+use Rattle.worked_examples.proofs.laws.worked_alikeness.Goals as goal
+
+hit_behind_is : hit_behind ≡ text_of (lines_behind AlwaysHit)
+unfolding address_text encode_with digits
+hit_behind_is = refl
+
+miss_behind_is : miss_behind ≡ text_of (lines_behind AlwaysMiss)
+unfolding address_text encode_with digits
+miss_behind_is = refl
+
+hit_between_is : hit_between ≡ text_of (lines_between AlwaysHit)
+unfolding address_text encode_with digits
+hit_between_is = refl
+
+miss_between_is : miss_between ≡ text_of (lines_between AlwaysMiss)
+unfolding address_text encode_with digits
+miss_between_is = refl
+
+by_other_ways_is : hit_by_other_ways ≡ text_of lines_by_other_ways
+unfolding address_text encode_with digits
+by_other_ways_is = refl
+
+-- the lines have a text, where the verdict has one
+behind_have : (verdict : Verdict) → FitsVerdict verdict → is_valid_verdict verdict ≡ true
+    → AllByRecursion HasText (lines_behind verdict)
+behind_have verdict fits valid = (
+  record { fits = (lit< tt, (lit< tt, lit< tt)); valid = refl },
+  (record { fits = (lit< tt, fits); valid = valid }, tt),
+)
+
+between_have : (verdict : Verdict) → FitsVerdict verdict → is_valid_verdict verdict ≡ true
+    → AllByRecursion HasText (lines_between verdict)
+between_have verdict fits valid =
+    let behind = behind_have verdict fits valid in
+    (behind.0, (behind.1.0, (record { fits = (lit< tt, (lit< tt, lit< tt)); valid = refl }, tt)))
+
+pub returns-clause-other_ways : goal.returns-clause-other_ways
+returns-clause-other_ways c =
+    (lines_between AlwaysHit, lines_by_other_ways, (refl, hit_between_is), (refl, by_other_ways_is), refl)
+
+pub returns-clause-behind_unknown : goal.returns-clause-behind_unknown
+returns-clause-behind_unknown c = λ alike.
+    let same = lines_alike (lines_behind AlwaysHit) (lines_behind AlwaysMiss) (behind_have AlwaysHit tt refl)
+    (behind_have AlwaysMiss tt refl) (rw (← hit_behind_is, ← miss_behind_is) alike) in
+    cc same
+
+pub returns-clause-between_unknown : goal.returns-clause-between_unknown
+returns-clause-between_unknown c = λ alike.
+    let same = lines_alike (lines_between AlwaysHit) (lines_between AlwaysMiss) (between_have AlwaysHit tt refl)
+    (between_have AlwaysMiss tt refl) (rw (← hit_between_is, ← miss_between_is) alike) in
+    cc same
