@@ -15,7 +15,8 @@ use Rattle.flow_spec.specs.Successors.{successors}
 use Rattle.report_spec.specs.declared.graph_line.GraphLine.{GraphLine}
 use Rattle.report_spec.specs.Graph.{graph_line_text, IsGraphLine, AreGraphLines, IsGraphText}
 use Rattle.one_answer.proofs.Listed.{one_way}
-use Rattle.one_answer.proofs.Programs.{configurations_total, one_numbering}
+use Rattle.flow_spec.proofs.Ordered.{configurations_total}
+use Rattle.one_answer.proofs.Programs.{one_numbering}
 
 -- no element stands twice
 abbrev AreApart : {A : Type 0} → List A → Type 0
