@@ -96,7 +96,7 @@ module _ (step : Step) (entry : ℕ) where
         let rest' : map (slice_get configurations) ms ≡ map Some cs = cc is' in
         cc (one_place configurations n m c apart first first', one_list ns ms cs rest rest')
 
-    -- two edges are told by the list of both
+    -- the list of both determines two edges
     one_pair : (next taken next' taken' : Option ℕ) → (next ≡ None → taken ≡ None) → (next' ≡ None → taken' ≡ None)
         → option_to_list next ++ option_to_list taken ≡ option_to_list next' ++ option_to_list taken' → (next ≡ next') × (taken ≡ taken')
     one_pair None None None None first first' same = (refl, refl)

@@ -9,14 +9,14 @@ use Rattle.report_spec.specs.HasText.{HasText, FitsVerdict}
 use Rattle.report_spec.specs.Text.{address_text, text_of}
 use Rattle.report_spec.specs.Valid.{is_valid_verdict}
 use Rattle.one_answer.proofs.Readings.{lines_alike}
-use Rattle.worked_examples.specs.Alike.{lines_behind, lines_between, lines_by_other_ways, hit_behind, miss_behind, hit_between, miss_between, hit_by_other_ways}
+use Rattle.worked_examples.specs.Alike.{lines_after, lines_between, lines_by_other_ways, hit_after, miss_after, hit_between, miss_between, hit_by_other_ways}
 use Rattle.worked_examples.proofs.laws.worked_alikeness.Goals as goal
 
-hit_behind_is : hit_behind ≡ text_of (lines_behind AlwaysHit)
+hit_behind_is : hit_after ≡ text_of (lines_after AlwaysHit)
 unfolding address_text encode_with digits
 hit_behind_is = refl
 
-miss_behind_is : miss_behind ≡ text_of (lines_behind AlwaysMiss)
+miss_behind_is : miss_after ≡ text_of (lines_after AlwaysMiss)
 unfolding address_text encode_with digits
 miss_behind_is = refl
 
@@ -34,7 +34,7 @@ by_other_ways_is = refl
 
 -- the lines have a text, where the verdict has one
 behind_have : (verdict : Verdict) → FitsVerdict verdict → is_valid_verdict verdict ≡ true
-    → AllByRecursion HasText (lines_behind verdict)
+    → AllByRecursion HasText (lines_after verdict)
 behind_have verdict fits valid = (
   record { fits = (lit< tt, (lit< tt, lit< tt)); valid = refl },
   (record { fits = (lit< tt, fits); valid = valid }, tt),
@@ -52,7 +52,7 @@ returns-clause-other_ways c =
 
 pub returns-clause-behind_unknown : goal.returns-clause-behind_unknown
 returns-clause-behind_unknown c = λ alike.
-    let same = lines_alike (lines_behind AlwaysHit) (lines_behind AlwaysMiss) (behind_have AlwaysHit tt refl)
+    let same = lines_alike (lines_after AlwaysHit) (lines_after AlwaysMiss) (behind_have AlwaysHit tt refl)
     (behind_have AlwaysMiss tt refl) (rw (← hit_behind_is, ← miss_behind_is) alike) in
     cc same
 
