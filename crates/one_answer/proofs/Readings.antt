@@ -14,7 +14,7 @@ use Rattle.report_spec.specs.HasText.{FitsVerdict, FitsLine, HasText}
 use Rattle.report_spec.specs.Text.{address_text, back_text, text_of}
 use Rattle.report_spec.specs.Valid.{is_letter, is_valid_way, is_valid_verdict, has_back_as_deep, is_valid}
 use Rattle.one_answer.specs.Alike.{verdict_alone, line_alone, AreAlike, AreAlikeTexts}
-use Rattle.one_answer.proofs.Fields.{address_injective, address_front, back_injective, choices_injective}
+use Rattle.one_answer.proofs.Fields.{address_injective, first_address, back_injective, choices_injective}
 use Rattle.one_answer.proofs.Tokens.{ended}
 use Rattle.one_answer.proofs.LineTokens.{verdict_tokens, tokens_of, no_range, no_context_at, no_context_from, same_words}
 
@@ -24,11 +24,11 @@ HasLetters AlwaysHit = Unit {0}
 HasLetters AlwaysMiss = Unit {0}
 HasLetters (Unknown hit miss) = (list_all is_letter hit.choices ≡ true) × (list_all is_letter miss.choices ≡ true)
 
--- the numbers of a line fit, and its choices are letters: its words tell it
-abbrev IsTold : Line → Type 0
-IsTold (At at verdict) = FitsLine (At at verdict) × HasLetters verdict
-IsTold (Context node at depth back verdict) = FitsLine (Context node at depth back verdict) × HasLetters verdict
-IsTold (Unreachable first last) = FitsLine (Unreachable first last) × Unit {0}
+-- the numbers of a line fit, and its choices are letters
+abbrev IsReadable : Line → Type 0
+IsReadable (At at verdict) = FitsLine (At at verdict) × HasLetters verdict
+IsReadable (Context node at depth back verdict) = FitsLine (Context node at depth back verdict) × HasLetters verdict
+IsReadable (Unreachable first last) = FitsLine (Unreachable first last) × Unit {0}
 
 -- a way is its steps and its choices
 one_way : (way other : Way) → way.steps ≡ other.steps → way.choices ≡ other.choices → way ≡ other
@@ -36,24 +36,19 @@ one_way way other steps choices =
     let made : ℕ → List ℕ → Way = λ n letters. record { steps = n; choices = letters } in
     ap (λ n. made n way.choices) steps ∙ ap (made other.steps) choices
 
--- the words of a verdict tell it
+-- a verdict is determined by its words
 one_verdict : (verdict other : Verdict) → FitsVerdict verdict → FitsVerdict other → HasLetters verdict
     → HasLetters other
     → verdict_tokens verdict ≡ verdict_tokens other → verdict ≡ other
 one_verdict AlwaysHit AlwaysHit fits fits' has has' same = refl
-one_verdict AlwaysHit AlwaysMiss fits fits' has has' same = absurd (cc same)
-one_verdict AlwaysHit (Unknown hit miss) fits fits' has has' same = absurd (cc same)
-one_verdict AlwaysMiss AlwaysHit fits fits' has has' same = absurd (cc same)
 one_verdict AlwaysMiss AlwaysMiss fits fits' has has' same = refl
-one_verdict AlwaysMiss (Unknown hit miss) fits fits' has has' same = absurd (cc same)
-one_verdict (Unknown hit miss) AlwaysHit fits fits' has has' same = absurd (cc same)
-one_verdict (Unknown hit miss) AlwaysMiss fits fits' has has' same = absurd (cc same)
 one_verdict (Unknown hit miss) (Unknown hit' miss') fits fits' has has' same =
     let hits : hit ≡ hit' = one_way hit hit' (decimal_injective hit.steps hit'.steps fits.0 fits'.0 (cc same))
     (choices_injective hit.choices hit'.choices has.0 has'.0 (cc same)) in
     let misses : miss ≡ miss' = one_way miss miss' (decimal_injective miss.steps miss'.steps fits.1 fits'.1 (cc same))
     (choices_injective miss.choices miss'.choices has.1 has'.1 (cc same)) in
     cc (hits, misses)
+one_verdict verdict other fits fits' has has' same = absurd (cc same)
 
 -- ---- the words of a line
 
@@ -61,61 +56,63 @@ one_verdict (Unknown hit miss) (Unknown hit' miss') fits fits' has has' same =
 one_number : (n m : ℕ) → n < 2 ^ 32 → m < 2 ^ 32 → decimal n ≡ decimal m → n ≡ m
 one_number n m fits fits' same = decimal_injective n m (omega arith) (omega arith) same
 
-one_range : (first last first' last' : ℕ) → IsTold (Unreachable first last) → IsTold (Unreachable first' last')
+-- a range is determined by its words
+one_range : (first last first' last' : ℕ) → IsReadable (Unreachable first last) → IsReadable (Unreachable first' last')
     → address_text first ++ (45 ∷ address_text last) ≡ address_text first' ++ (45 ∷ address_text last')
     → Unreachable first last ≡ Unreachable first' last'
-one_range first last first' last' told told' same =
-    let (firsts, behind) = address_front first first' (45 ∷ address_text last) (45 ∷ address_text last') same in
-    let begins = address_injective first first' told.0.0 told'.0.0 firsts in
-    let ends = address_injective last last' told.0.1 told'.0.1 (cc behind) in
+one_range first last first' last' reads reads' same =
+    let (firsts, after) = first_address first first' (45 ∷ address_text last) (45 ∷ address_text last') same in
+    let begins = address_injective first first' reads.0.0 reads'.0.0 firsts in
+    let ends = address_injective last last' reads.0.1 reads'.0.1 (cc after) in
     cc (begins, ends)
 
+-- a line of a configuration is determined by its words
 one_configuration : (node at depth node' at' depth' : ℕ) (back back' : Option ℕ) (verdict verdict' : Verdict)
-    → IsTold (Context node at depth back verdict) → IsTold (Context node' at' depth' back' verdict')
+    → IsReadable (Context node at depth back verdict) → IsReadable (Context node' at' depth' back' verdict')
     → tokens_of (Context node at depth back verdict) ≡ tokens_of (Context node' at' depth' back' verdict')
     → Context node at depth back verdict ≡ Context node' at' depth' back' verdict'
-one_configuration node at depth node' at' depth' back back' verdict verdict' told told' same =
-    let nodes = one_number node node' told.0.0 told'.0.0 (cc same) in
-    let ats = address_injective at at' told.0.1 told'.0.1 (cc same) in
-    let depths = one_number depth depth' told.0.2 told'.0.2 (cc same) in
-    let backs = back_injective back back' told.0.3 told'.0.3 (cc same) in
-    let said = one_verdict verdict verdict' told.0.4 told'.0.4 told.1 told'.1 (cc same) in
+one_configuration node at depth node' at' depth' back back' verdict verdict' reads reads' same =
+    let nodes = one_number node node' reads.0.0 reads'.0.0 (cc same) in
+    let ats = address_injective at at' reads.0.1 reads'.0.1 (cc same) in
+    let depths = one_number depth depth' reads.0.2 reads'.0.2 (cc same) in
+    let backs = back_injective back back' reads.0.3 reads'.0.3 (cc same) in
+    let said = one_verdict verdict verdict' reads.0.4 reads'.0.4 reads.1 reads'.1 (cc same) in
     cc (nodes, ats, depths, backs, said)
 
 -- no verdict is the word of a range
 no_range_alone : (verdict : Verdict) → verdict_tokens verdict ≡ ended (codes "unreachable") ∷ [] → ⊥
 no_range_alone verdict same = no_range verdict [] [] (append-nil (verdict_tokens verdict) ∙ same)
 
--- the words of a line tell it
-one_line : (line other : Line) → IsTold line → IsTold other → tokens_of line ≡ tokens_of other → line ≡ other
-one_line (At at verdict) (At at' verdict') told told' same =
-    let ats = address_injective at at' told.0.0 told'.0.0 (cc same) in
-    let said = one_verdict verdict verdict' told.0.1 told'.0.1 told.1 told'.1 (cc same) in
+-- each line is determined by its words
+one_line : (line other : Line) → IsReadable line → IsReadable other → tokens_of line ≡ tokens_of other → line ≡ other
+one_line (At at verdict) (At at' verdict') reads reads' same =
+    let ats = address_injective at at' reads.0.0 reads'.0.0 (cc same) in
+    let said = one_verdict verdict verdict' reads.0.1 reads'.0.1 reads.1 reads'.1 (cc same) in
     cc (ats, said)
-one_line (At at verdict) (Context node at' depth back verdict') told told' same =
+one_line (At at verdict) (Context node at' depth back verdict') reads reads' same =
     absurd (no_context_at at node _ _ same)
-one_line (At at verdict) (Unreachable first last) told told' same = absurd (no_range_alone verdict (cc same))
-one_line (Context node at depth back verdict) (At at' verdict') told told' same =
+one_line (At at verdict) (Unreachable first last) reads reads' same = absurd (no_range_alone verdict (cc same))
+one_line (Context node at depth back verdict) (At at' verdict') reads reads' same =
     absurd (no_context_at at' node _ _ (sym same))
-one_line (Context node at depth back verdict) (Context node' at' depth' back' verdict') told told' same =
-    one_configuration node at depth node' at' depth' back back' verdict verdict' told told' same
-one_line (Context node at depth back verdict) (Unreachable first last) told told' same =
+one_line (Context node at depth back verdict) (Context node' at' depth' back' verdict') reads reads' same =
+    one_configuration node at depth node' at' depth' back back' verdict verdict' reads reads' same
+one_line (Context node at depth back verdict) (Unreachable first last) reads reads' same =
     absurd (no_context_from first node (45 ∷ address_text last) _ _ (sym same))
-one_line (Unreachable first last) (At at verdict) told told' same = absurd (no_range_alone verdict (cc same))
-one_line (Unreachable first last) (Context node at depth back verdict) told told' same =
+one_line (Unreachable first last) (At at verdict) reads reads' same = absurd (no_range_alone verdict (cc same))
+one_line (Unreachable first last) (Context node at depth back verdict) reads reads' same =
     absurd (no_context_from first node (45 ∷ address_text last) _ _ same)
-one_line (Unreachable first last) (Unreachable first' last') told told' same =
-    one_range first last first' last' told told' (cc same)
+one_line (Unreachable first last) (Unreachable first' last') reads reads' same =
+    one_range first last first' last' reads reads' (cc same)
 
--- the words of lines tell them
-one_by_one : (lines others : List Line) → AllByRecursion IsTold lines → AllByRecursion IsTold others
+-- so are lists of lines
+one_by_one : (lines others : List Line) → AllByRecursion IsReadable lines → AllByRecursion IsReadable others
     → map tokens_of lines ≡ map tokens_of others → lines ≡ others
-one_by_one [] [] told told' same = refl
-one_by_one [] (other ∷ others) told told' same = absurd (cc same)
-one_by_one (line ∷ lines) [] told told' same = absurd (cc same)
-one_by_one (line ∷ lines) (other ∷ others) told told' same =
-    let here = one_line line other told.0 told'.0 (cc same) in
-    let rest = one_by_one lines others told.1 told'.1 (cc same) in
+one_by_one [] [] reads reads' same = refl
+one_by_one [] (other ∷ others) reads reads' same = absurd (cc same)
+one_by_one (line ∷ lines) [] reads reads' same = absurd (cc same)
+one_by_one (line ∷ lines) (other ∷ others) reads reads' same =
+    let here = one_line line other reads.0 reads'.0 (cc same) in
+    let rest = one_by_one lines others reads.1 reads'.1 (cc same) in
     cc (here, rest)
 
 -- ---- without ways
@@ -153,6 +150,7 @@ line_words_alone (Unreachable first last) (Context node at depth back verdict) s
     absurd (no_context_from first node (45 ∷ address_text last) _ _ same)
 line_words_alone (Unreachable first last) (Unreachable first' last') same = same
 
+-- and lists of lines
 words_alone : (lines others : List Line) → map tokens_of lines ≡ map tokens_of others
     → map tokens_of (map line_alone lines) ≡ map tokens_of (map line_alone others)
 words_alone [] [] same = refl
@@ -175,56 +173,62 @@ letters_of (Unknown hit miss) valid =
       (and_parts (nat_lt 0 miss.steps) (list_all is_letter miss.choices) ways.1).1,
     )
 
-told_of : (line : Line) → HasText line → IsTold line
-told_of (At at verdict) has = (has.fits, letters_of verdict has.valid)
-told_of (Context node at depth back verdict) has =
+-- a line that has a text is determined by its words
+readable : (line : Line) → HasText line → IsReadable line
+readable (At at verdict) has = (has.fits, letters_of verdict has.valid)
+readable (Context node at depth back verdict) has =
     (has.fits, letters_of verdict (and_parts (has_back_as_deep depth back) (is_valid_verdict verdict) has.valid).1)
-told_of (Unreachable first last) has = (has.fits, tt)
+readable (Unreachable first last) has = (has.fits, tt)
 
--- without its ways a verdict fits
+-- without its ways a verdict fits, and has no choices but letters
 fits_alone : (verdict : Verdict) → FitsVerdict (verdict_alone verdict) × HasLetters (verdict_alone verdict)
 fits_alone AlwaysHit = (tt, tt)
 fits_alone AlwaysMiss = (tt, tt)
 fits_alone (Unknown hit miss) = ((omega arith, omega arith), (refl, refl))
 
-told_alone : (line : Line) → HasText line → IsTold (line_alone line)
-told_alone (At at verdict) has = let (fits, letters) = fits_alone verdict in ((has.fits.0, fits), letters)
-told_alone (Context node at depth back verdict) has =
+-- without its ways a line that has a text is determined by its words
+readable_alone : (line : Line) → HasText line → IsReadable (line_alone line)
+readable_alone (At at verdict) has = let (fits, letters) = fits_alone verdict in ((has.fits.0, fits), letters)
+readable_alone (Context node at depth back verdict) has =
     let (fits, letters) = fits_alone verdict in ((has.fits.0, has.fits.1, has.fits.2, has.fits.3, fits), letters)
-told_alone (Unreachable first last) has = (has.fits, tt)
+readable_alone (Unreachable first last) has = (has.fits, tt)
 
+-- lines that have a text are valid
 valid_of : (lines : List Line) → AllByRecursion HasText lines → list_all is_valid lines ≡ true
 valid_of [] have = refl
 valid_of (line ∷ lines) have = and_from (is_valid line) (list_all is_valid lines) have.0.valid (valid_of lines have.1)
 
-told_lines : (lines : List Line) → AllByRecursion HasText lines → AllByRecursion IsTold lines
-told_lines [] have = tt
-told_lines (line ∷ lines) have = (told_of line have.0, told_lines lines have.1)
+-- and determined by their words
+readable_lines : (lines : List Line) → AllByRecursion HasText lines → AllByRecursion IsReadable lines
+readable_lines [] have = tt
+readable_lines (line ∷ lines) have = (readable line have.0, readable_lines lines have.1)
 
-told_lines_alone : (lines : List Line) → AllByRecursion HasText lines → AllByRecursion IsTold (map line_alone lines)
-told_lines_alone [] have = tt
-told_lines_alone (line ∷ lines) have = (told_alone line have.0, told_lines_alone lines have.1)
+-- also without their ways
+readable_lines_alone : (lines : List Line) → AllByRecursion HasText lines
+    → AllByRecursion IsReadable (map line_alone lines)
+readable_lines_alone [] have = tt
+readable_lines_alone (line ∷ lines) have = (readable_alone line have.0, readable_lines_alone lines have.1)
 
--- lines with one text are the same lines
+-- lines that have one text are the same lines
 pub one_reading : (lines others : List Line) → AllByRecursion HasText lines → AllByRecursion HasText others
     → text_of lines ≡ text_of others → lines ≡ others
 one_reading lines others have have' same =
-    one_by_one lines others (told_lines lines have) (told_lines others have')
+    one_by_one lines others (readable_lines lines have) (readable_lines others have')
     (same_words lines others (valid_of lines have) (valid_of others have') same)
 
--- texts of lines that are alike are alike
+-- lines that are alike have texts that are alike
 pub texts_alike : (lines others : List Line) → AllByRecursion HasText lines → AllByRecursion HasText others
     → AreAlike lines others
     → AreAlikeTexts (text_of lines) (text_of others)
 texts_alike lines others have have' alike =
     (lines, others, (valid_of lines have, refl), (valid_of others have', refl), alike)
 
--- and only these
+-- and no other lines have
 pub lines_alike : (lines others : List Line) → AllByRecursion HasText lines → AllByRecursion HasText others
     → AreAlikeTexts (text_of lines) (text_of others) → AreAlike lines others
 lines_alike lines others have have' (read, read', (valid, is), (valid', is'), alike) =
     let words = words_alone lines read (same_words lines read (valid_of lines have) valid is) in
     let words' = words_alone others read' (same_words others read' (valid_of others have') valid' is') in
     one_by_one (map line_alone lines) (map line_alone others)
-    (told_lines_alone lines have) (told_lines_alone others have')
+    (readable_lines_alone lines have) (readable_lines_alone others have')
     (words ∙ ap (map tokens_of) alike ∙ sym words')

@@ -13,7 +13,7 @@ ghost use Rattle.report_spec.specs.Report.{IsReport};
 ghost use Rattle.report_spec.specs.Text.{line_text};
 ghost use Rattle.transition_spec.specs.Named.{Names};
 ghost use Rattle.transition_spec.specs.Path.{IsPath};
-ghost use Rattle.worked_examples.specs.Alike.{hit_behind, miss_behind, hit_between, miss_between, hit_by_other_ways};
+ghost use Rattle.worked_examples.specs.Alike.{hit_after, miss_after, hit_between, miss_between, hit_by_other_ways};
 ghost use Rattle.worked_examples.specs.Caches.{geometry, worked_touches, worked_hits};
 ghost use Rattle.worked_examples.specs.Files.{two_words, two_words_image, worked_places, worked_refusals};
 ghost use Rattle.worked_examples.specs.Flows.{worked_moves, worked_calls, worked_faults, worked_targets};
@@ -64,10 +64,10 @@ pub fn worked_texts()
 {}
 
 /// Texts are alike where their unknown lines have other ways, and not where a verdict differs. That holds of a verdict
-/// behind an unknown line and between two: what stands behind the first one can't be taken for its choices.
+/// after an unknown line and between two: what stands after the first one can't be taken for its choices.
 pub fn worked_alikeness()
     ensures other_ways { AreAlikeTexts hit_between hit_by_other_ways }
-    ensures behind_unknown { AreAlikeTexts hit_behind miss_behind → ⊥ }
+    ensures after_unknown { AreAlikeTexts hit_after miss_after → ⊥ }
     ensures between_unknown { AreAlikeTexts hit_between miss_between → ⊥ }
 {}
 
