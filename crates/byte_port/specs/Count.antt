@@ -24,7 +24,7 @@ CountsFaults (Ok value) before now = now ≡ before
 CountsFaults (Err faults.Failed) before now = Rose before now
 CountsFaults (Err faults.OutOfMemory) before now = now ≡ before
 
--- want of memory only where the count of refusals rose, and else the count as it was
+-- out of memory only where the count of refusals rose, and else the count as it was
 abbrev pub CountsRefusals : {T : Type 0} → Result T SinkFault → ℕ → ℕ → Type 0
 CountsRefusals (Ok value) before now = now ≡ before
 CountsRefusals (Err faults.Failed) before now = now ≡ before

@@ -1,7 +1,10 @@
 -- The source and the sink in memory that fail at named calls, as their callers see them.
-use Rattle.std.specs.Prelude.{ℕ, ◌+◌, List, Contains, min}
+use Rattle.std.specs.Prelude.{◌≡◌, ℕ, ◌+◌, List, Contains, length, min, Result, Ok, Err}
 use Rattle.byte_port.specs.Count.{greatest_count}
-use Rattle.byte_port.specs.Sure.{Supply, without, Store, with_sent, with_refusal}
+use Rattle.byte_port.specs.Sure.{Supply, without, Store, taken_count, with_sent, with_refusal}
+use Rattle.byte_port.specs.declared.Failed.{Failed}
+use Rattle.byte_port.specs.declared.SinkFault.{SinkFault}
+use Rattle.byte_port.specs.declared.SinkFault.TheVariants as faults
 
 -- the numbers of the calls that fail, the number of the next call, and how many calls failed
 pub record Schedule : Type 0 where
@@ -34,6 +37,11 @@ after_read source n = record { supply = without source.supply n; calls = after_c
 abbrev pub after_failed_read : FailingSupply → FailingSupply
 after_failed_read source = record source { calls = after_failure source.calls }
 
+-- one read: it fails at the calls named, and else takes the bytes that it gives
+abbrev pub IsRead : FailingSupply → Result ℕ Failed → FailingSupply → Type 0
+IsRead old (Ok n) new = (FailsNext old.calls → ⊥) × (new ≡ after_read old n)
+IsRead old (Err failed) new = FailsNext old.calls × (new ≡ after_failed_read old)
+
 -- the bytes that were sent with how many one write takes at most and the refusals, and the calls
 pub record FailingStore : Type 0 where
   pub store : Store
@@ -50,3 +58,10 @@ after_refusal sink = record { store = with_refusal sink.store; calls = after_cal
 -- the sink after a write that failed: nothing was sent
 abbrev pub after_failed_write : FailingStore → FailingStore
 after_failed_write sink = record sink { calls = after_failure sink.calls }
+
+-- one write: it fails at the calls named; else some of a piece was taken, or it was refused
+abbrev pub IsWrite : FailingStore → Result ℕ SinkFault → FailingStore → Type 0
+IsWrite old (Ok n) new = (FailsNext old.calls → ⊥)
+    × ((piece : List ℕ) × (n ≡ taken_count old.store (length piece)) × (new ≡ after_write old piece))
+IsWrite old (Err faults.OutOfMemory) new = (FailsNext old.calls → ⊥) × (new ≡ after_refusal old)
+IsWrite old (Err faults.Failed) new = FailsNext old.calls × (new ≡ after_failed_write old)

@@ -3,3 +3,5 @@ pub mod Piece
 pub mod Sure
 pub mod Failing
 pub mod Stream
+pub mod Calls
+pub mod Sent

@@ -1,6 +1,9 @@
 -- The sources and sinks in memory that never fail, as their callers see them.
-use Rattle.std.specs.Prelude.{ℕ, ◌+◌, List, ◌++◌, length, take, drop, min}
+use Rattle.std.specs.Prelude.{◌≡◌, ℕ, ◌+◌, List, ◌++◌, length, take, drop, min, Result, Ok, Err}
 use Rattle.byte_port.specs.Count.{greatest_count}
+use Rattle.byte_port.specs.declared.Failed.{Failed}
+use Rattle.byte_port.specs.declared.SinkFault.{SinkFault}
+use Rattle.byte_port.specs.declared.SinkFault.TheVariants as faults
 
 -- the bytes that are left, and how many one read gives at most
 pub record Supply : Type 0 where
@@ -15,12 +18,17 @@ given_count supply room = min (min supply.piece room) (length supply.left)
 abbrev pub without : Supply → ℕ → Supply
 without supply n = record supply { left = drop n supply.left }
 
--- a buffer whose front has what a read into it gives
+-- one read: it takes the bytes that it gives, and never fails
+abbrev pub IsRead : Supply → Result ℕ Failed → Supply → Type 0
+IsRead old (Ok n) new = new ≡ without old n
+IsRead old (Err failed) new = ⊥
+
+-- a buffer that begins with what a read into it gives
 abbrev pub filled : Supply → List ℕ → List ℕ
 filled supply buf =
     take (given_count supply (length buf)) supply.left ++ drop (given_count supply (length buf)) buf
 
--- the bytes that were sent, how many one write takes at most, and how many writes were refused for want of memory
+-- the bytes that were sent, how many one write takes at most, and how many writes were refused since memory ran out
 pub record Store : Type 0 where
   pub sent : List ℕ
   pub piece : ℕ
@@ -38,3 +46,9 @@ with_sent store piece =
 -- the store after a write that was refused
 abbrev pub with_refusal : Store → Store
 with_refusal store = record store { refusals = min (store.refusals + 1) greatest_count }
+
+-- one write: some of a piece was taken, or it was refused; it never fails
+abbrev pub IsWrite : Store → Result ℕ SinkFault → Store → Type 0
+IsWrite old (Ok n) new = (piece : List ℕ) × (n ≡ taken_count old (length piece)) × (new ≡ with_sent old piece)
+IsWrite old (Err faults.OutOfMemory) new = new ≡ with_refusal old
+IsWrite old (Err faults.Failed) new = ⊥

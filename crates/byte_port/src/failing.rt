@@ -3,7 +3,7 @@ ghost use Rattle.std.specs.Prelude.{◌≡◌, ◌<◌, ◌≤◌, ◌↔◌, []
 ghost use Rattle.std.specs.Bool.{OnTrue, OnFalse};
 ghost use Rattle.byte_port.specs.Count.{greatest_count};
 ghost use Rattle.byte_port.specs.Sure.{given_count, filled, taken_count};
-ghost use Rattle.byte_port.specs.Failing.{FailsNext, after_call, after_failure, after_read, after_failed_read};
+ghost use Rattle.byte_port.specs.Failing.{IsRead, IsWrite, FailsNext, after_call, after_failure, after_read, after_failed_read};
 ghost use Rattle.byte_port.specs.Failing.{after_write, after_refusal, after_failed_write};
 
 use crate::{Failed, Sink, SinkFault, Source, SureSink, SureSource};
@@ -101,6 +101,8 @@ impl Source for MemSource {
 
     ghost faults = { λ s. s.calls.faults };
 
+    ghost reads = { IsRead };
+
     fn read(&mut self, buf: &mut [u8]) -> Result<usize, Failed>
         ensures positive { 0 < self.old.supply.piece }
         ensures counted { self.old.calls.faults ≤ greatest_count }
@@ -119,7 +121,7 @@ impl Source for MemSource {
 }
 
 /// A sink into memory. One write takes at most `piece` bytes, and just the writes whose numbers are in `failing` fail;
-/// others may be refused for want of memory. Writes are numbered from 0; from the greatest `u64` on each has that
+/// others may be refused where memory runs out. Writes are numbered from 0; from the greatest `u64` on each has that
 /// number.
 #[derive(Drop)]
 pub struct MemSink {
@@ -168,6 +170,8 @@ impl Sink for MemSink {
     ghost faults = { λ s. s.calls.faults };
 
     ghost refusals = { λ s. s.store.refusals };
+
+    ghost writes = { IsWrite };
 
     fn write(&mut self, piece: &[u8]) -> Result<usize, SinkFault>
         ensures positive { 0 < self.old.store.piece }
@@ -219,7 +223,7 @@ mod tests {
     }
 
     #[test]
-    fn sending_into_a_failing_sink_leaves_a_front(rt: HostRuntime) -> Result<(), Fail> {
+    fn sending_into_a_failing_sink_leaves_a_prefix(rt: HostRuntime) -> Result<(), Fail> {
         let mut sink = MemSink::new(rt.alloc(), 2, [1].to_vec(rt.alloc())?);
         assert_eq!(rt;
             send_all(&mut sink, &[1, 2, 3, 4, 5]),

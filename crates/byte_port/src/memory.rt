@@ -1,7 +1,7 @@
 //! Sources and sinks that keep their bytes in memory.
 ghost use Rattle.std.specs.Prelude.{◌≡◌, ◌<◌, ◌≤◌, [], length, Ok, Some, IfOk, IfErr, OnOk, OnErr};
 ghost use Rattle.byte_port.specs.Count.{greatest_count};
-ghost use Rattle.byte_port.specs.Sure.{given_count, without, filled, taken_count, with_sent, with_refusal};
+ghost use Rattle.byte_port.specs.Sure.{IsRead, IsWrite, given_count, without, filled, taken_count, with_sent, with_refusal};
 
 use crate::{Failed, Sink, SinkFault, Source};
 use std::alloc::Global;
@@ -45,6 +45,8 @@ impl Source for SureSource {
 
     ghost faults = { λ _. 0 };
 
+    ghost reads = { IsRead };
+
     fn read(&mut self, buf: &mut [u8]) -> Result<usize, Failed>
         ensures positive { 0 < self.old.piece }
         ensures given { result ≡ Ok (given_count self.old (length buf.old)) }
@@ -58,7 +60,7 @@ impl Source for SureSource {
     }
 }
 
-/// A sink into memory. One write takes at most `piece` bytes, and none fails but for want of memory.
+/// A sink into memory. One write takes at most `piece` bytes, and none fails but where memory runs out.
 #[derive(Drop)]
 pub struct SureSink {
     bytes: Vec<u8>,
@@ -104,6 +106,8 @@ impl Sink for SureSink {
     ghost faults = { λ _. 0 };
 
     ghost refusals = { λ s. s.refusals };
+
+    ghost writes = { IsWrite };
 
     fn write(&mut self, piece: &[u8]) -> Result<usize, SinkFault>
         ensures positive { 0 < self.old.piece }

@@ -2,7 +2,8 @@
 ghost use Rattle.std.specs.Prelude.{◌≡◌, ◌<◌, ◌≤◌, ◌+◌, length, IfOk, IfSome, OnOk, OnErr, IsErrOf};
 ghost use Rattle.std.specs.Io.KnownBytes.{Appends, Consumes, IsAtEnd};
 ghost use Rattle.byte_port.specs.Count.{CountsFaults, CountsRefusals};
-ghost use Rattle.byte_port.specs.Stream.{SendsPrefix, CountsStop, EndsAtFault, Takes, TakesAtMost};
+ghost use Rattle.byte_port.specs.Calls.{ReadsBy, SendsBy};
+ghost use Rattle.byte_port.specs.Stream.{SendsPrefix, CountsStop, Takes, TakesAtMost};
 
 use crate::{Failed, Sink, SinkFault, Source};
 use std::alloc::{AllocError, Global};
@@ -51,16 +52,18 @@ pub fn read_all<S: Source>(alloc: Global, source: &mut S, limit: usize) -> Resul
     ensures part { OnErr result (TakesAtMost (S.left source.old) (S.left source.new) (limit + 1)) }
     ensures one_more { IsErrOf result ReadStop.TooBig → Takes (S.left source.old) (S.left source.new) (limit + 1) }
 
-    // Where the source tells its bytes, their number decides between `Ok` and `TooBig`.
+    // Where the bytes of the source are known, their number decides between `Ok` and `TooBig`.
     ensures fits { OnOk result (IfSome (S.left source.old) (λ all. length all ≤ limit)) }
     ensures too_big { IsErrOf result ReadStop.TooBig → IfSome (S.left source.old) (λ all. limit < length all) }
     ensures faults { CountsStop result (S.faults source.old) (S.faults source.new) }
-    ensures first_fault { OnErr result (EndsAtFault S.left S.faults source.old source.new) }
+
+    // Which reads were made: none after the first that failed or gave nothing.
+    ensures reads { ReadsBy S.reads S.left S.faults result source.old source.new }
 {
     let mut bytes = Vec::new(alloc);
     let mut piece = [0u8; PIECE];
     while bytes.len() <= limit {
-        // One byte past the limit is asked for too: it tells a text of just that length from a longer one.
+        // One byte past the limit is asked for too: a text of just that length and a longer one differ in it.
         let most = (limit - bytes.len()).min(PIECE - 1) + 1;
         let count = source.read(&mut piece[..most])?;
         if count == 0 {
@@ -71,12 +74,15 @@ pub fn read_all<S: Source>(alloc: Global, source: &mut S, limit: usize) -> Resul
     Err(ReadStop::TooBig)
 }
 
-/// Sends a whole text, piece after piece. The first error ends it, and the sink then has a front of the text.
+/// Sends a whole text, piece after piece. The first error ends it, and the sink then has a prefix of the text.
 pub fn send_all<O: Sink>(out: &mut O, text: &[u8]) -> Result<(), SinkFault>
     ensures whole { OnOk result (Appends (O.sent out.old) (O.sent out.new) text.now) }
     ensures part { OnErr result (SendsPrefix (O.sent out.old) (O.sent out.new) text.now) }
     ensures faults { CountsFaults result (O.faults out.old) (O.faults out.new) }
     ensures refusals { CountsRefusals result (O.refusals out.old) (O.refusals out.new) }
+
+    // Which writes were made: none after the first that failed or was refused.
+    ensures writes { SendsBy O.writes result out.old out.new }
 {
     let mut at = 0;
     while at < text.len() {

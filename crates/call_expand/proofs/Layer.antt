@@ -24,7 +24,8 @@ use Rattle.call_expand.specs.Place.{configuration_at, configurations_at, place_c
 use Rattle.call_expand.specs.Numbers.{AreNew}
 use Rattle.call_expand.specs.Search.{AreNext}
 use Rattle.call_expand.proofs.Zipped.{all-append, all-map}
-use Rattle.call_expand.proofs.Ordered.{place_total, same_configuration, same_place}
+use Rattle.flow_spec.proofs.Decided.{same-from_equal}
+use Rattle.call_expand.proofs.Ordered.{place_total, same_place}
 use Rattle.call_expand.proofs.New.{new-listed, new-unseen, new-all, new-sorted}
 
 -- a list in order by what a function gives is so given in order
@@ -107,7 +108,7 @@ module _ (step : Step) (image : Image) (cells : List StackCell) where
       sorted =
           sorted-map configuration_cmp (configuration_at cells) new
           (new-sorted (place_cmp cells) (IsPlace image cells) (place_total cells)
-          (λ a b first second tie. one_place a b first second (same_configuration (configuration_at cells a) (configuration_at cells b) tie)) found
+          (λ a b first second tie. one_place a b first second (same-from_equal (configuration_at cells a) (configuration_at cells b) tie)) found
           (before ++ last) new are_found sorted are);
       follow = λ c has.
           let p = from-map (configuration_at cells) new c has in

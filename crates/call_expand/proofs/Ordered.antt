@@ -1,23 +1,19 @@
 -- The order of configurations is total, and tells any two of them apart.
-use Rattle.std.proofs.Common.{◌≡◌, ℕ, ◌<◌, ◌≤◌, List, [], ◌∷◌, length, refl, ap}
+use Rattle.std.proofs.Common.{◌≡◌, ℕ, ◌<◌, ◌≤◌, List, length, refl, ap}
 use denote.Param.Members.{Mut}
 use denote.Ref.{Bor}
-use Rattle.std.specs.Prelude.{flat_map, Bool}
+use Rattle.std.specs.Prelude.{Bool}
 use Rattle.std.specs.Fn.{Called, ComparesAs}
 use Rattle.std.specs.List.Sorted.{IsSorted, IsSortedBy}
 use Rattle.std.proofs.lemmas.Fn.{always_returns_same}
 use Rattle.std.specs.Cmp.{IsTotalOrder, IsStrictWeakOrder}
-use Rattle.std.specs.Cmp.Lexicographic.{slice_cmp}
 use Rattle.std.specs.Ordering.{nat_cmp, is_lt, ordering_then}
 use Rattle.std.specs.declared.cmp.Ordering.{Ordering}
 use Rattle.std.specs.declared.cmp.Ordering.TheVariants.{Less, Equal, Greater}
 use Rattle.std.proofs.lemmas.Cmp.{on_total, nat_list_cmp_total, ranked, by_ranked}
 use Rattle.std.proofs.lemmas.List.Sorted.{ranks_by}
-use Rattle.frame_stacks.proofs.Compared.{link_from_number}
-use Rattle.riscv_spec.specs.declared.kind.Link.{Link}
-use Rattle.flow_spec.specs.Configuration.{Configuration, configuration}
-use Rattle.flow_spec.specs.Order.{frame_numbers, numbers_of, configuration_cmp}
-use Rattle.flow_spec.specs.declared.frame.Frame.{Frame}
+use Rattle.flow_spec.specs.Configuration.{Configuration}
+use Rattle.flow_spec.specs.Order.{numbers_of}
 use Rattle.frame_stacks.specs.declared.stacks.StackCell.{StackCell}
 use Rattle.frame_stacks.specs.Stacks.{AreCells, frames_of}
 use Rattle.call_expand.specs.declared.place.Place.{Place}
@@ -41,50 +37,6 @@ pub nat_equal : (x y : ℕ) (o : Ordering) → o ≡ nat_cmp x y → o ≡ Equal
 nat_equal x y o is equal =
     by_ranked (x < y) (x ≡ y) (y < x) o (ranked x y o is)
     (λ (less : o ≡ Less) below. absurd (cc)) (λ (_ : o ≡ Equal) same. same) (λ (more : o ≡ Greater) above. absurd (cc))
-
--- numbers that are compared as equal are so
-pub same_numbers : (xs ys : List ℕ) → slice_cmp nat_cmp xs ys ≡ Equal → xs ≡ ys
-same_numbers [] [] equal = refl
-same_numbers [] (y ∷ ys) equal = absurd (cc)
-same_numbers (x ∷ xs) [] equal = absurd (cc)
-same_numbers (x ∷ xs) (y ∷ ys) equal =
-    let both = then_equal (nat_cmp x y) (slice_cmp nat_cmp xs ys) equal in
-    let first : x ≡ y = nat_equal x y (nat_cmp x y) refl both.0 in
-    let rest : xs ≡ ys = same_numbers xs ys both.1 in
-    cc (first, rest)
-
--- a frame by its parts
-abbrev frame : ℕ → Link → ℕ → Frame
-frame back link callee = record { back = back; link = link; callee = callee }
-
--- frames with the same parts are the same
-frame-parts : (b c : ℕ) (k l : Link) (s t : ℕ) → b ≡ c → k ≡ l → s ≡ t → frame b k s ≡ frame c l t
-frame-parts b c k l s t back link callee = cc
-
--- frames with the same numbers are the same
-same_frames : (fs gs : List Frame) → flat_map frame_numbers fs ≡ flat_map frame_numbers gs → fs ≡ gs
-same_frames [] [] same = refl
-same_frames [] (g ∷ gs) same = absurd (cc)
-same_frames (f ∷ fs) [] same = absurd (cc)
-same_frames (f ∷ fs) (g ∷ gs) same =
-    let back : f.back ≡ g.back = cc in
-    let link : f.link ≡ g.link = link_from_number f.link g.link (cc) in
-    let callee : f.callee ≡ g.callee = cc in
-    let rest : flat_map frame_numbers fs ≡ flat_map frame_numbers gs = cc in
-    let first : f ≡ g = frame-parts f.back g.back f.link g.link f.callee g.callee back link callee in
-    cc (first, same_frames fs gs rest)
-
--- so are configurations
-configuration-parts : (fs gs : List Frame) (p q : ℕ) → fs ≡ gs → p ≡ q → configuration fs p ≡ configuration gs q
-configuration-parts fs gs p q frames at = cc
-
--- configurations that are compared as equal are so
-pub same_configuration : (c d : Configuration) → configuration_cmp c d ≡ Equal → c ≡ d
-same_configuration c d equal =
-    let same = same_numbers (numbers_of c) (numbers_of d) equal in
-    let at : c.at ≡ d.at = cc in
-    let numbers : flat_map frame_numbers c.frames ≡ flat_map frame_numbers d.frames = cc in
-    configuration-parts c.frames d.frames c.at d.at (same_frames c.frames d.frames numbers) at
 
 -- a place by its parts
 abbrev pub place : ℕ → ℕ → Place

@@ -18,7 +18,7 @@ use Rattle.focus_plain.specs.declared.search.Entry.{Entry}
 use Rattle.focus_plain.specs.declared.ends.Found.{Found}
 use Rattle.focus_plain.specs.Cut.{IsBelow, left_by}
 use Rattle.focus_plain.specs.Entries.{set_at, trail_of, seen_of, seen_at, latest_at, place_of, IsSpread}
-use Rattle.focus_plain.specs.Outcomes.{IsWayOf}
+use Rattle.focus_plain.specs.Ways.{IsWayOf}
 use Rattle.focus_plain.specs.Ends.{AreEnds, IsFound}
 use Rattle.focus_plain.proofs.Order.{small-cut}
 use Rattle.focus_plain.proofs.Course.{paths_between}

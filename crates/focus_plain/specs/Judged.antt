@@ -6,14 +6,15 @@ use Rattle.transition_spec.specs.declared.way.Way.{Way}
 use Rattle.focus_spec.specs.Younger.{fetch_at}
 use Rattle.focus_spec.specs.Fate.{AllEnd, NamesEnd}
 use Rattle.set_view.specs.View.{View}
-use Rattle.focus_plain.specs.declared.judging.Outcome.{Outcome}
-use Rattle.focus_plain.specs.declared.judging.Outcome.TheVariants.{Hits, Misses, Both}
+use Rattle.focus_plain.specs.declared.judging.Classification.{Classification}
+use Rattle.focus_plain.specs.declared.judging.Classification.TheVariants.{Hits, Misses, Both}
 
 -- every path that ends in the node hits; every one misses; or one way leads to a hit there, and one to a miss
-abbrev pub IsOutcome : View → ℕ → Outcome → Type 0
-IsOutcome view n Hits = AllEnd view.nodes view.geometry n true
-IsOutcome view n Misses = AllEnd view.nodes view.geometry n false
-IsOutcome view n (Both hit miss) = NamesEnd view.nodes view.geometry n hit true × NamesEnd view.nodes view.geometry n miss false
+abbrev pub IsClassification : View → ℕ → Classification → Type 0
+IsClassification view n Hits = AllEnd view.nodes view.geometry n true
+IsClassification view n Misses = AllEnd view.nodes view.geometry n false
+IsClassification view n (Both hit miss) =
+    NamesEnd view.nodes view.geometry n hit true × NamesEnd view.nodes view.geometry n miss false
 
 -- the nodes are exactly those that fetch the block, rising
 pub record AreFetchers (fetches : List (Option ℕ)) (block : ℕ) (nodes : List ℕ) : Type 0 where

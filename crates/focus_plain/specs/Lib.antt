@@ -6,7 +6,7 @@ pub use Rattle.transition_spec.specs.Named
 pub mod Cut
 pub mod Entries
 pub mod Search
-pub mod Outcomes
+pub mod Ways
 pub mod Ends
 pub mod Judged
 pub mod Settled

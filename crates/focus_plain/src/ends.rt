@@ -3,7 +3,7 @@ ghost use Rattle.std.specs.Prelude.{◌≡◌, ◌<◌, ◌^◌, ℕ, length, So
 ghost use Rattle.path_trail.specs.Trail.{node_at, IsTrail};
 ghost use Rattle.focus_plain.specs.Entries.{trail_of};
 ghost use Rattle.focus_plain.specs.Ends.{AreEnds, IsNoted, IsFound};
-ghost use Rattle.focus_plain.specs.Outcomes.{IsWayOf};
+ghost use Rattle.focus_plain.specs.Ways.{IsWayOf};
 
 use crate::search::{Entry, Search, find_entries};
 use path_model::{Graph, choices_of};

@@ -4,7 +4,7 @@ ghost use Rattle.std.specs.List.{All};
 ghost use Rattle.focus_spec.specs.Younger.{fetch_at};
 ghost use Rattle.set_view.specs.View.{IsView};
 ghost use Rattle.focus_plain.specs.Ends.{IsFound};
-ghost use Rattle.focus_plain.specs.Judged.{AreFetchers, IsOutcome};
+ghost use Rattle.focus_plain.specs.Judged.{AreFetchers, IsClassification};
 
 use crate::ends::{Found, find, way_of};
 use path_trail::Way;
@@ -13,7 +13,7 @@ use std::alloc::{AllocError, Global};
 
 /// What the paths that end in a node do there: all hit, all miss, or some hit and some miss, with a way for each.
 #[derive(Debug, Drop)]
-pub enum Outcome {
+pub enum Classification {
     Hits,
     Misses,
     Both { hit: Way, miss: Way },
@@ -23,7 +23,7 @@ pub enum Outcome {
 #[derive(Debug, Drop)]
 pub struct Judged {
     pub node: u32,
-    pub outcome: Outcome,
+    pub classification: Classification,
 }
 
 /// What the paths do that end in each node that fetches a block of the set, rising by node. The block is told by its
@@ -36,7 +36,8 @@ pub struct Judged {
 pub fn judge(alloc: Global, view: &SetView, block: u16) -> Result<Vec<Judged>, AllocError>
     requires { block < length view.now.blocks }
     ensures nodes { IfOk result (λ judged. AreFetchers view.now.fetches block (map (λ j. j.node) judged.items)) }
-    ensures outcomes { IfOk result (λ judged. All (λ j. IsOutcome view.now j.node j.outcome) judged.items) }
+    ensures classifications { IfOk result (λ judged.
+        All (λ j. IsClassification view.now j.node j.classification) judged.items) }
 {
     let blocks = view.blocks();
     prove!((block as usize) < blocks.len());
@@ -44,33 +45,36 @@ pub fn judge(alloc: Global, view: &SetView, block: u16) -> Result<Vec<Judged>, A
     let mut judged = Vec::new(alloc);
     for node in 0..view.graph().nodes().len() as u32 {
         if view.fetch(node) == Some(block) {
-            let outcome = outcome_at(alloc, view, &found, node)?;
-            judged.push(Judged { node, outcome })?;
+            let classification = classification_at(alloc, view, &found, node)?;
+            judged.push(Judged {
+                node,
+                classification,
+            })?;
         }
     }
     Ok(judged)
 }
 
 // What the paths do that end in a node which fetches the block.
-fn outcome_at(
+fn classification_at(
     alloc: Global,
     view: &SetView,
     found: &Found,
     node: u32,
-) -> Result<Outcome, AllocError>
+) -> Result<Classification, AllocError>
     requires view { IsView view.now }
     requires found { IsFound view.now found.now }
     requires fetches { fetch_at view.now.fetches node ≡ Some found.now.block }
     requires inside { node < length view.now.nodes }
-    ensures { IfOk result (λ outcome. IsOutcome view.now node outcome) }
+    ensures { IfOk result (λ classification. IsClassification view.now node classification) }
 {
     view_laws();
     match (found.hits[node as usize], found.misses[node as usize]) {
-        (Some(hit), Some(miss)) => Ok(Outcome::Both {
+        (Some(hit), Some(miss)) => Ok(Classification::Both {
             hit: way_of(alloc, view.graph(), &found.search, hit)?,
             miss: way_of(alloc, view.graph(), &found.search, miss)?,
         }),
-        (Some(_), None) => Ok(Outcome::Hits),
-        (None, _) => Ok(Outcome::Misses),
+        (Some(_), None) => Ok(Classification::Hits),
+        (None, _) => Ok(Classification::Misses),
     }
 }

@@ -15,5 +15,5 @@ mod settling;
 #[cfg(test)]
 mod tests;
 
-pub use judging::{Judged, Outcome, judge};
+pub use judging::{Classification, Judged, judge};
 pub use settling::{Fate, PlainPlace, PlainSettled, settle};

@@ -1,4 +1,4 @@
-use crate::{Outcome, judge, settle};
+use crate::{Classification, judge, settle};
 use cache_geom::Geometry;
 use path_model::{Graph, Node, ends_in_hit, follow};
 use path_trail::Way;
@@ -70,12 +70,12 @@ fn leads(
     }
 }
 
-// What an outcome is, by a letter.
-fn letter(outcome: &Outcome) -> char {
-    match outcome {
-        Outcome::Hits => 'h',
-        Outcome::Misses => 'm',
-        Outcome::Both { .. } => 'b',
+// What a classification is, by a letter.
+fn letter(classification: &Classification) -> char {
+    match classification {
+        Classification::Hits => 'h',
+        Classification::Misses => 'm',
+        Classification::Both { .. } => 'b',
     }
 }
 
@@ -99,8 +99,12 @@ fn a_node_is_judged_by_all_paths_that_end_there(rt: HostRuntime) -> Result<(), F
         assert_eq!(rt; judged.len(), expected.len());
         for (found, (node, kind)) in judged.iter().zip(expected) {
             assert_eq!(rt; found.node, *node);
-            assert_eq!(rt; letter(&found.outcome), *kind, "{ways} ways, block {block}");
-            if let Outcome::Both { hit, miss } = &found.outcome {
+            assert_eq!(rt;
+                letter(&found.classification),
+                *kind,
+                "{ways} ways, block {block}"
+            );
+            if let Classification::Both { hit, miss } = &found.classification {
                 assert!(rt; leads(alloc, &graph, &geometry, hit, *node, true)?);
                 assert!(rt; leads(alloc, &graph, &geometry, miss, *node, false)?);
             }

@@ -2,8 +2,12 @@
 -- that the sink got. This project's own statuses; their order is that in which the causes are met.
 use Rattle.std.specs.Prelude.{◌≡◌, ◌⊎◌, ℕ, ◌+◌, List, Option, Some, Result, Ok, Err, ◌<◌, ◌≤◌, length, map, unwrap_or}
 use Rattle.std.specs.Io.KnownBytes.{Appends, Keeps, Consumes, IsAtEnd}
+use Rattle.byte_port.specs.Calls.{EndsAtFault, EndsWith, MovesSome}
 use Rattle.byte_port.specs.Count.{Rose}
 use Rattle.byte_port.specs.Stream.{SendsPrefix, Takes, TakesAtMost}
+use Rattle.byte_port.specs.declared.Failed.{Failed}
+use Rattle.byte_port.specs.declared.SinkFault.{SinkFault}
+use Rattle.byte_port.specs.declared.SinkFault.TheVariants as sinks
 use Rattle.elf_spec.specs.Image.{Image, image_of}
 use Rattle.elf_spec.specs.declared.fault.ElfFault.{ElfFault}
 use Rattle.transition_spec.specs.Layer.{all_of}
@@ -184,20 +188,19 @@ abbrev pub CountsOutRefusals : Status → ℕ → ℕ → Type 0
 CountsOutRefusals OutOfMemory before now = before ≤ now
 CountsOutRefusals status before now = now ≡ before
 
--- the words, the source or the file are refused before anything is sent
-abbrev pub IsRefusal : Status → Type 0
-IsRefusal Usage = Unit {0}
-IsRefusal ReadFault = Unit {0}
-IsRefusal FileTooBig = Unit {0}
-IsRefusal (Elf fault) = Unit {0}
-IsRefusal (Flow fault) = Unit {0}
-IsRefusal (TooManyBlocks set count) = Unit {0}
-IsRefusal Done = ⊥
-IsRefusal WriteFault = ⊥
-IsRefusal OutOfMemory = ⊥
+-- how a run read its source: not at all at faulty arguments, up to the first read that failed, up to the limit, or to its
+-- end; where memory ran out, up to there
+abbrev pub ReadsFor : {P : Type 0} → (P → Result ℕ Failed → P → Type 0) → (P → Option (List ℕ)) → (P → ℕ) → Status → P → P → Type 0
+ReadsFor reads left faults Usage old new = new ≡ old
+ReadsFor reads left faults ReadFault old new = EndsAtFault reads left faults old new
+ReadsFor reads left faults FileTooBig old new = MovesSome reads old new
+ReadsFor reads left faults OutOfMemory old new = MovesSome reads old new ⊎ EndsWith reads (Ok 0) old new
+ReadsFor reads left faults status old new = EndsWith reads (Ok 0) old new
 
--- the sink has got the whole text and no count rose, or a front of it and just one of its counts rose
-abbrev pub Reports : List ℕ → Option (List ℕ) → Option (List ℕ) → ℕ → ℕ → ℕ → ℕ → Type 0
-Reports text old new faults faults' refusals refusals' =
-    (Appends old new text × (faults' ≡ faults) × (refusals' ≡ refusals))
-    ⊎ (SendsPrefix old new text × ((Rose faults faults' × (refusals' ≡ refusals)) ⊎ ((faults' ≡ faults) × Rose refusals refusals')))
+-- how a run wrote to its sink: up to its answer's end, or up to the first write that failed or was refused; where memory
+-- ran out elsewhere, up to there; and not at all where the arguments, the source or the file are refused
+abbrev pub WritesFor : {P : Type 0} → (P → Result ℕ SinkFault → P → Type 0) → Status → P → P → Type 0
+WritesFor writes Done old new = MovesSome writes old new
+WritesFor writes WriteFault old new = EndsWith writes (Err sinks.Failed) old new
+WritesFor writes OutOfMemory old new = MovesSome writes old new ⊎ EndsWith writes (Err sinks.OutOfMemory) old new
+WritesFor writes status old new = new ≡ old

@@ -2,7 +2,7 @@
 ghost use Rattle.std.specs.Prelude.{◌<◌, Some, IfOk, OnOk, OnErr};
 ghost use Rattle.byte_port.specs.Stream.{SendsPrefix};
 ghost use Rattle.std.specs.Io.KnownBytes.{Appends};
-ghost use Rattle.line_sender.specs.Pending.{Pending, CountsSend, CountsSendRefusals};
+ghost use Rattle.line_sender.specs.Pending.{Pending, CountsSend, CountsSendRefusals, WritesBy};
 ghost use Rattle.report_plan.specs.Kept.{IsPlanOf};
 ghost use Rattle.icache_top.specs.Lines.{AreFound, StandsAt, SendsAll, SendsNext, SendsPart, left_from};
 
@@ -16,15 +16,15 @@ use verdict_report::Verdict;
 
 /// What was found of an accepted program: its configurations as a graph, and the verdict of each.
 #[derive(Clone, Copy)]
-pub struct Findings<'p> {
-    pub image: &'p Image,
-    pub expanded: &'p Expanded,
-    pub verdicts: &'p [Verdict],
+pub(crate) struct Findings<'p> {
+    pub(crate) image: &'p Image,
+    pub(crate) expanded: &'p Expanded,
+    pub(crate) verdicts: &'p [Verdict],
 }
 
-/// Sends the report of a program, by address or with a line for each configuration. After an error the sink has a front
-/// of it.
-pub fn send_report<O: Sink>(
+/// Sends the report of a program, by address or with a line for each configuration. After an error the sink has a
+/// prefix of it.
+pub(crate) fn send_report<O: Sink>(
     alloc: Global,
     out: &mut O,
     found: &Findings,
@@ -37,6 +37,7 @@ pub fn send_report<O: Sink>(
         (SendsPrefix (O.sent out.old) (O.sent out.new))) }
     ensures faults { CountsSend result (O.faults out.old) (O.faults out.new) }
     ensures refusals { CountsSendRefusals result (O.refusals out.old) (O.refusals out.new) }
+    ensures writes { WritesBy O.writes result out.old out.new }
 {
     let plan = Plan::new(alloc, found.expanded)?;
     let mut buffer = Vec::with_capacity(alloc, PIECE)?;
@@ -68,6 +69,7 @@ fn send_from<O: Sink>(
         (SendsPrefix (O.sent out.old) (O.sent out.new)) buffer.old.items) }
     ensures faults { CountsSend result (O.faults out.old) (O.faults out.new) }
     ensures refusals { CountsSendRefusals result (O.refusals out.old) (O.refusals out.new) }
+    ensures writes { WritesBy O.writes result out.old out.new }
 {
     let Findings {
         image,

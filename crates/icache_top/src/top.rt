@@ -1,6 +1,6 @@
 ghost use Rattle.std.specs.Prelude.{◌≡◌, ◌≢◌, ◌↔◌, ℕ, ◌≤◌, List, [], Option, Some, IsNone, IsSome, IfSome, IfErr, length};
 ghost use Rattle.byte_port.specs.Count.{Rose};
-ghost use Rattle.byte_port.specs.Stream.{EndsAtFault};
+ghost use Rattle.byte_port.specs.Sent.{Reports};
 ghost use Rattle.command_spec.specs.Settings.{settings_of};
 ghost use Rattle.top_words.specs.Views.{bytes_of};
 ghost use Rattle.top_words.specs.FaultText.{fault_text};
@@ -8,12 +8,12 @@ ghost use Rattle.top_words.specs.Status.{KeepsMemoryApart};
 ghost use Rattle.flow_spec.specs.Acceptance.{IsRefused};
 ghost use Rattle.flow_spec.specs.Successors.{successors};
 ghost use Rattle.report_lines.specs.Findings.{IsWithin};
-ghost use Rattle.icache_top.specs.Answer.{Answers, CountsOut, CountsOutRefusals, CountsSource, Decides, IsAcceptedWith, IsRefusal, IsTextFrom, IsTooMuchFor, Reports, SaysOf, Tells, ToldOf, sent_as, settled_as, status_of, file_limit};
+ghost use Rattle.icache_top.specs.Answer.{Answers, CountsOut, CountsOutRefusals, CountsSource, Decides, IsAcceptedWith, IsTextFrom, IsTooMuchFor, ReadsFor, SaysOf, Tells, ToldOf, WritesFor, sent_as, settled_as, status_of, file_limit};
 
 use crate::graph::send_graph;
 use crate::report::{Findings, send_report};
 use crate::{Gate, Jobs, NodeWords, Outcome, Status};
-use byte_port::{Sink, Source, read_all, send_all};
+use byte_port::{Sink, Source, read_all};
 use cache_geom::Geometry;
 use call_expand::expand;
 use command_spec::Settings;
@@ -22,7 +22,7 @@ use line_sender::SendStop;
 use node_verdicts::{VerdictsFault, node_verdicts};
 use std::alloc::Global;
 use std::thread::Threads;
-use top_words::{read_words, text_of};
+use top_words::{explain, read_words};
 use verdict_report::Verdict;
 
 /// The most bytes that a file may have.
@@ -54,23 +54,23 @@ pub fn run<R: Threads + Sync, S: Source, O: Sink, E: Sink, G: Gate + Sync>(
         → (Rose (S.faults source.old) (S.faults source.new) → ⊥) → (Rose (O.faults out.old) (O.faults out.new) → ⊥)
         → Decides (bytes_of words.now) file result.status (O.sent out.old) (O.sent out.new) }
 
-    // A fault only where its count rose, and no fault passed over or tried again.
+    // A fault only where its count rose, and no fault passed over.
     ensures reads { CountsSource result.status (S.faults source.old) (S.faults source.new) }
-    ensures first_fault { EndsAtFault S.left S.faults source.old source.new }
     ensures writes { CountsOut result.status (O.faults out.old) (O.faults out.new) }
     ensures refusals { CountsOutRefusals result.status (O.refusals out.old) (O.refusals out.new) }
 
-    // Faulty words touch no port but `err`, and no refusal touches the sink.
-    ensures unread { result.status ≡ Status.Usage → source.new ≡ source.old }
-    ensures unsent { IsRefusal result.status → out.new ≡ out.old }
+    // Which calls of the ports were made: none after the first that failed or gave nothing. Faulty arguments touch no port
+    // but `err`, and no refusal touches the sink.
+    ensures reading { ReadsFor S.reads S.left S.faults result.status source.old source.new }
+    ensures writing { WritesFor O.writes result.status out.old out.new }
 
-    // Want of memory is a status of its own.
+    // Out of memory is a status of its own.
     ensures memory { KeepsMemoryApart result.status }
 
     // What standard error gets.
     ensures silent { result.status ≡ Status.Done → err.new ≡ err.old }
-    ensures told { result.status ≢ Status.Done → Reports (fault_text result.status) (E.sent err.old) (E.sent err.new)
-        (E.faults err.old) (E.faults err.new) (E.refusals err.old) (E.refusals err.new) }
+    ensures reported { result.status ≢ Status.Done → Reports E.sent E.faults E.refusals E.writes
+        (fault_text result.status) err.old err.new }
 
     // Nothing is settled over the table today.
     ensures table { result.table ≡ [] }
@@ -79,8 +79,7 @@ pub fn run<R: Threads + Sync, S: Source, O: Sink, E: Sink, G: Gate + Sync>(
     let status = match answer(alloc, words, source, out) {
         Ok(()) => Status::Done,
         Err(status) => {
-            // A failing `err` changes no status.
-            let _ = send_all(err, text_of(&status).as_bytes());
+            explain(err, &status);
             status
         }
     };
@@ -102,11 +101,10 @@ fn answer<S: Source, O: Sink>(
     ensures answer { Answers (bytes_of words.now) (status_of result)
         (S.left source.old) (S.left source.new) (O.sent out.old) (O.sent out.new) }
     ensures reads { CountsSource (status_of result) (S.faults source.old) (S.faults source.new) }
-    ensures first_fault { EndsAtFault S.left S.faults source.old source.new }
     ensures writes { CountsOut (status_of result) (O.faults out.old) (O.faults out.new) }
     ensures refusals { CountsOutRefusals (status_of result) (O.refusals out.old) (O.refusals out.new) }
-    ensures unread { result ≡ Err Status.Usage → source.new ≡ source.old }
-    ensures unsent { IsRefusal (status_of result) → out.new ≡ out.old }
+    ensures reading { ReadsFor S.reads S.left S.faults (status_of result) source.old source.new }
+    ensures writing { WritesFor O.writes (status_of result) out.old out.new }
     ensures memory { KeepsMemoryApart (status_of result) }
 {
     let Some(settings) = read_words(words) else {
@@ -128,7 +126,7 @@ fn answer_file<O: Sink>(
     ensures told { Tells settings.now file.items (status_of result) (O.sent out.old) (O.sent out.new) }
     ensures writes { CountsOut (status_of result) (O.faults out.old) (O.faults out.new) }
     ensures refusals { CountsOutRefusals (status_of result) (O.refusals out.old) (O.refusals out.new) }
-    ensures unsent { IsRefusal (status_of result) → out.new ≡ out.old }
+    ensures writing { WritesFor O.writes (status_of result) out.old out.new }
     ensures memory { KeepsMemoryApart (status_of result) }
 {
     let image = elf_image::read(alloc, file)?;
@@ -163,7 +161,7 @@ fn classify<O: Sink>(
         (status_of result) (O.sent out.old) (O.sent out.new) }
     ensures writes { CountsOut (status_of result) (O.faults out.old) (O.faults out.new) }
     ensures refusals { CountsOutRefusals (status_of result) (O.refusals out.old) (O.refusals out.new) }
-    ensures unsent { IsRefusal (status_of result) → out.new ≡ out.old }
+    ensures writing { WritesFor O.writes (status_of result) out.old out.new }
     ensures memory { KeepsMemoryApart (status_of result) }
 {
     let expanded = expand(alloc, image, entry)?;
@@ -186,7 +184,7 @@ fn graph<O: Sink>(alloc: Global, out: &mut O, image: &Image, entry: u32) -> Resu
         (status_of result) (O.sent out.old) (O.sent out.new) }
     ensures writes { CountsOut (status_of result) (O.faults out.old) (O.faults out.new) }
     ensures refusals { CountsOutRefusals (status_of result) (O.refusals out.old) (O.refusals out.new) }
-    ensures unsent { IsRefusal (status_of result) → out.new ≡ out.old }
+    ensures writing { WritesFor O.writes (status_of result) out.old out.new }
     ensures memory { KeepsMemoryApart (status_of result) }
 {
     let expanded = expand(alloc, image, entry)?;

@@ -1,12 +1,18 @@
 -- The laws of what is pending: they carry a text from line to line, up to its end or to an error.
-use Rattle.std.proofs.Common.{◌≡◌, ℕ, ◌+◌, List, [], ◌++◌, length, take, refl, sym, ap, subst, arith, ◌∙◌, append_assoc}
+use Rattle.std.proofs.Common.{◌≡◌, ℕ, ◌+◌, List, [], ◌++◌, length, take, Result, Ok, Err, inl, inr, refl, sym, ap, subst, arith, ◌∙◌, append_assoc}
 use Rattle.std.proofs.Math.Seq.{take-length, take-append-add}
 use Rattle.std.proofs.lemmas.Grind.{common_steps}
 use Rattle.std.proofs.KnownBytes.{Appends-nil, Appends-trans}
 use Rattle.std.specs.Io.KnownBytes.{Appends}
 use Rattle.std.specs.declared.option.Option.{Option}
 use Rattle.byte_port.specs.Stream.{SendsPrefix}
-use Rattle.line_sender.specs.Pending.{Pending}
+use Rattle.byte_port.specs.Calls.{MovesSome}
+use Rattle.byte_port.specs.declared.SinkFault.{SinkFault}
+use Rattle.byte_port.specs.declared.SinkFault.TheVariants as faults
+use Rattle.byte_port.proofs.Moves.{MovesSome-trans, EndsWith-after}
+use Rattle.line_sender.specs.declared.SendStop.{SendStop}
+use Rattle.line_sender.specs.declared.SendStop.TheVariants as stops
+use Rattle.line_sender.specs.Pending.{Pending, WritesBy}
 
 -- before anything is sent, the buffer alone is pending: at the beginning of a report, nothing
 pub Pending-start : (a : Option (List ℕ)) (buffer : List ℕ) → Pending a a buffer buffer
@@ -80,3 +86,12 @@ pub SendsPrefix-line : (a b c : Option (List ℕ)) (buffer text line : List ℕ)
     → Pending a b buffer text → SendsPrefix b c (buffer ++ line) → SendsPrefix a c (text ++ line)
 SendsPrefix-line a b c buffer text line before part =
     SendsPrefix-pending a b c (buffer ++ line) (text ++ line) (Pending-more a b buffer text line before) part
+
+-- writes, and then a sending
+pub WritesBy-after : {P T : Type 0} (writes : P → Result ℕ SinkFault → P → Type 0) (r : Result T SendStop) (a b c : P)
+    → MovesSome writes a b → WritesBy writes r b c → WritesBy writes r a c
+WritesBy-after writes (Ok value) a b c before next = MovesSome-trans writes a b c before next
+WritesBy-after writes (Err stops.Failed) a b c before next = EndsWith-after writes (Err faults.Failed) a b c before next
+WritesBy-after writes (Err stops.OutOfMemory) a b c before (inl next) = inl (MovesSome-trans writes a b c before next)
+WritesBy-after writes (Err stops.OutOfMemory) a b c before (inr next) =
+    inr (EndsWith-after writes (Err faults.OutOfMemory) a b c before next)

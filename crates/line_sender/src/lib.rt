@@ -14,7 +14,7 @@ ghost use Rattle.byte_port.specs.Stream.{SendsPrefix};
 ghost use Rattle.report_spec.specs.Graph.{graph_line_text};
 ghost use Rattle.report_spec.specs.Text.{line_text, text_of};
 ghost use Rattle.report_spec.specs.Valid.{is_valid};
-ghost use Rattle.line_sender.specs.Pending.{Pending, CountsSend, CountsSendRefusals};
+ghost use Rattle.line_sender.specs.Pending.{Pending, CountsSend, CountsSendRefusals, WritesBy};
 
 use byte_port::{Sink, SinkFault, send_all};
 use std::alloc::{AllocError, Global};
@@ -72,6 +72,7 @@ pub fn send_line<O: Sink>(out: &mut O, buffer: &mut Vec<u8>, line: &Line) -> Res
     ensures held { length (buffer.old.items ++ line_text line.now) < PIECE → out.new ≡ out.old }
     ensures faults { CountsSend result (O.faults out.old) (O.faults out.new) }
     ensures refusals { CountsSendRefusals result (O.refusals out.old) (O.refusals out.new) }
+    ensures writes { WritesBy O.writes result out.old out.new }
 {
     write_line(line, buffer)?;
     hand_on(out, buffer)
@@ -90,6 +91,7 @@ pub fn send_graph_line<O: Sink>(
     ensures held { length (buffer.old.items ++ graph_line_text line.now) < PIECE → out.new ≡ out.old }
     ensures faults { CountsSend result (O.faults out.old) (O.faults out.new) }
     ensures refusals { CountsSendRefusals result (O.refusals out.old) (O.refusals out.new) }
+    ensures writes { WritesBy O.writes result out.old out.new }
 {
     write_graph_line(line, buffer)?;
     hand_on(out, buffer)
@@ -103,6 +105,7 @@ fn hand_on<O: Sink>(out: &mut O, buffer: &mut Vec<u8>) -> Result<(), SendStop>
     ensures held { length buffer.old.items < PIECE → (out.new ≡ out.old) × IsOk result }
     ensures faults { CountsSend result (O.faults out.old) (O.faults out.new) }
     ensures refusals { CountsSendRefusals result (O.refusals out.old) (O.refusals out.new) }
+    ensures writes { WritesBy O.writes result out.old out.new }
 {
     if buffer.len() < PIECE {
         return Ok(());
@@ -119,6 +122,7 @@ pub fn finish<O: Sink>(out: &mut O, buffer: &mut Vec<u8>) -> Result<(), SendStop
     ensures part { OnErr result (SendsPrefix (O.sent out.old) (O.sent out.new) buffer.old.items) }
     ensures faults { CountsSend result (O.faults out.old) (O.faults out.new) }
     ensures refusals { CountsSendRefusals result (O.refusals out.old) (O.refusals out.new) }
+    ensures writes { WritesBy O.writes result out.old out.new }
 {
     send_all(out, buffer)?;
     buffer.clear();
@@ -132,6 +136,7 @@ pub fn send_lines<O: Sink>(alloc: Global, out: &mut O, lines: &[Line]) -> Result
     ensures part { OnErr result (SendsPrefix (O.sent out.old) (O.sent out.new) (text_of lines.now)) }
     ensures faults { CountsSend result (O.faults out.old) (O.faults out.new) }
     ensures refusals { CountsSendRefusals result (O.refusals out.old) (O.refusals out.new) }
+    ensures writes { WritesBy O.writes result out.old out.new }
 {
     let mut buffer = Vec::with_capacity(alloc, PIECE)?;
     for line in lines {

@@ -7,7 +7,7 @@ ghost use Rattle.path_model.specs.Graph.{addresses_of};
 
 use crate::verdicts::VerdictsFault;
 use cache_geom::Geometry;
-use focus_plain::{Judged, Outcome, judge};
+use focus_plain::{Classification, Judged, judge};
 use path_model::Graph;
 use report_spec::Verdict;
 use set_view::{SetView, view};
@@ -96,18 +96,18 @@ fn settle_block(
 // Notes the verdict of a node.
 fn note(verdicts: &mut Vec<Verdict>, judged: Judged)
     requires { judged.node < length verdicts.old.items }
-    ensures { verdicts.new.items ≡ slice_set verdicts.old.items judged.node (verdict_of judged.outcome) }
+    ensures { verdicts.new.items ≡ slice_set verdicts.old.items judged.node (verdict_of judged.classification) }
 {
-    verdicts[judged.node as usize] = verdict_of(judged.outcome);
+    verdicts[judged.node as usize] = verdict_of(judged.classification);
 }
 
-// The verdict of a node with this outcome.
-fn verdict_of(outcome: Outcome) -> Verdict
-    ensures { result ≡ verdict_of outcome }
+// The verdict of a node with this classification.
+fn verdict_of(classification: Classification) -> Verdict
+    ensures { result ≡ verdict_of classification }
 {
-    match outcome {
-        Outcome::Hits => Verdict::AlwaysHit,
-        Outcome::Misses => Verdict::AlwaysMiss,
-        Outcome::Both { hit, miss } => Verdict::Unknown { hit, miss },
+    match classification {
+        Classification::Hits => Verdict::AlwaysHit,
+        Classification::Misses => Verdict::AlwaysMiss,
+        Classification::Both { hit, miss } => Verdict::Unknown { hit, miss },
     }
 }

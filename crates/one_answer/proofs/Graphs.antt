@@ -15,7 +15,8 @@ use Rattle.flow_spec.specs.Successors.{successors}
 use Rattle.report_spec.specs.declared.graph_line.GraphLine.{GraphLine}
 use Rattle.report_spec.specs.Graph.{graph_line_text, IsGraphLine, AreGraphLines, IsGraphText}
 use Rattle.one_answer.proofs.Listed.{one_way}
-use Rattle.one_answer.proofs.Programs.{configurations_total, one_numbering}
+use Rattle.flow_spec.proofs.Ordered.{configurations_total}
+use Rattle.one_answer.proofs.Programs.{one_numbering}
 
 -- no element stands twice
 abbrev AreApart : {A : Type 0} → List A → Type 0
@@ -95,7 +96,7 @@ module _ (step : Step) (entry : ℕ) where
         let rest' : map (slice_get configurations) ms ≡ map Some cs = cc is' in
         cc (one_place configurations n m c apart first first', one_list ns ms cs rest rest')
 
-    -- two edges are told by the list of both
+    -- the list of both determines two edges
     one_pair : (next taken next' taken' : Option ℕ) → (next ≡ None → taken ≡ None) → (next' ≡ None → taken' ≡ None)
         → option_to_list next ++ option_to_list taken ≡ option_to_list next' ++ option_to_list taken' → (next ≡ next') × (taken ≡ taken')
     one_pair None None None None first first' same = (refl, refl)

@@ -1,4 +1,4 @@
--- The layers of a system of steps are told by it, and behind an empty one all are empty.
+-- A system of steps determines its layers, and after an empty one all are empty.
 use Rattle.std.proofs.Common.{◌≡◌, ℕ, ◌+◌, ◌<◌, List, [], ◌∷◌, ◌++◌, length, refl, ap, subst, arith, inl, inr}
 use Rattle.std.specs.Prelude.{◌⊎◌, Result}
 use Rattle.std.specs.List.{AllByRecursion}

@@ -2,8 +2,6 @@
 use Rattle.std.proofs.Common.{◌≡◌, ℕ, ◌≤◌, List, [], ◌∷◌, ◌++◌, length, refl, ap, sym, ◌∙◌, subst, arith, inl, inr, append_assoc, append-nil, length-append}
 use Rattle.std.specs.Prelude.{◌⊎◌, Contains, Ok, Err, IsOk, IsTrue, not, Bool, true, false}
 use Rattle.std.specs.List.{AllByRecursion}
-use Rattle.std.specs.Cmp.{IsTotalOrder}
-use Rattle.std.proofs.lemmas.Cmp.{on_total, nat_list_cmp_total}
 use Rattle.std.proofs.lemmas.List.Concat.{flat_map-append}
 use Rattle.std.proofs.lemmas.List.Elements.{Contains-append_left, Contains-append_right}
 use Rattle.list_lemmas.proofs.Members.{has-first, each-has}
@@ -12,15 +10,12 @@ use Rattle.transition_spec.specs.Layer.{AreLayersFrom, all_of}
 use Rattle.flow_spec.specs.declared.fault.FlowFault.{FlowFault}
 use Rattle.flow_spec.specs.Transfer.{is_good_target}
 use Rattle.flow_spec.specs.Configuration.{Configuration, start_of}
-use Rattle.flow_spec.specs.Order.{configuration_cmp, numbers_of}
+use Rattle.flow_spec.specs.Order.{configuration_cmp}
 use Rattle.flow_spec.specs.Successors.{Successors}
 use Rattle.flow_spec.specs.Acceptance.{Step, IsFaultless, IsAccepted, IsFirstFaulty, PassesLimit, IsRefused}
+use Rattle.flow_spec.proofs.Ordered.{configurations_total}
 use Rattle.call_expand.proofs.Zipped.{all-front, all-back}
 use Rattle.one_answer.proofs.Layers.{EndsWithin, none_from, meet}
-
--- the order of configurations is total
-pub configurations_total : IsTotalOrder configuration_cmp
-configurations_total = on_total numbers_of nat_list_cmp_total
 
 -- the configurations of layers that go on behind some
 all_split : (earlier rest : List (List Configuration)) (last : List Configuration) → all_of (earlier ++ last ∷ rest) ≡ all_of earlier ++ (last ++ all_of rest)

@@ -60,10 +60,10 @@ one_number n m fits fits' same = decimal_injective n m (omega arith) (omega arit
 one_range : (first last first' last' : ℕ) → IsReadable (Unreachable first last) → IsReadable (Unreachable first' last')
     → address_text first ++ (45 ∷ address_text last) ≡ address_text first' ++ (45 ∷ address_text last')
     → Unreachable first last ≡ Unreachable first' last'
-one_range first last first' last' reads reads' same =
+one_range first last first' last' readable readable' same =
     let (firsts, after) = first_address first first' (45 ∷ address_text last) (45 ∷ address_text last') same in
-    let begins = address_injective first first' reads.0.0 reads'.0.0 firsts in
-    let ends = address_injective last last' reads.0.1 reads'.0.1 (cc after) in
+    let begins = address_injective first first' readable.0.0 readable'.0.0 firsts in
+    let ends = address_injective last last' readable.0.1 readable'.0.1 (cc after) in
     cc (begins, ends)
 
 -- a line of a configuration is determined by its words
@@ -71,12 +71,12 @@ one_configuration : (node at depth node' at' depth' : ℕ) (back back' : Option 
     → IsReadable (Context node at depth back verdict) → IsReadable (Context node' at' depth' back' verdict')
     → tokens_of (Context node at depth back verdict) ≡ tokens_of (Context node' at' depth' back' verdict')
     → Context node at depth back verdict ≡ Context node' at' depth' back' verdict'
-one_configuration node at depth node' at' depth' back back' verdict verdict' reads reads' same =
-    let nodes = one_number node node' reads.0.0 reads'.0.0 (cc same) in
-    let ats = address_injective at at' reads.0.1 reads'.0.1 (cc same) in
-    let depths = one_number depth depth' reads.0.2 reads'.0.2 (cc same) in
-    let backs = back_injective back back' reads.0.3 reads'.0.3 (cc same) in
-    let said = one_verdict verdict verdict' reads.0.4 reads'.0.4 reads.1 reads'.1 (cc same) in
+one_configuration node at depth node' at' depth' back back' verdict verdict' readable readable' same =
+    let nodes = one_number node node' readable.0.0 readable'.0.0 (cc same) in
+    let ats = address_injective at at' readable.0.1 readable'.0.1 (cc same) in
+    let depths = one_number depth depth' readable.0.2 readable'.0.2 (cc same) in
+    let backs = back_injective back back' readable.0.3 readable'.0.3 (cc same) in
+    let said = one_verdict verdict verdict' readable.0.4 readable'.0.4 readable.1 readable'.1 (cc same) in
     cc (nodes, ats, depths, backs, said)
 
 -- no verdict is the word of a range
@@ -85,34 +85,34 @@ no_range_alone verdict same = no_range verdict [] [] (append-nil (verdict_tokens
 
 -- each line is determined by its words
 one_line : (line other : Line) → IsReadable line → IsReadable other → tokens_of line ≡ tokens_of other → line ≡ other
-one_line (At at verdict) (At at' verdict') reads reads' same =
-    let ats = address_injective at at' reads.0.0 reads'.0.0 (cc same) in
-    let said = one_verdict verdict verdict' reads.0.1 reads'.0.1 reads.1 reads'.1 (cc same) in
+one_line (At at verdict) (At at' verdict') readable readable' same =
+    let ats = address_injective at at' readable.0.0 readable'.0.0 (cc same) in
+    let said = one_verdict verdict verdict' readable.0.1 readable'.0.1 readable.1 readable'.1 (cc same) in
     cc (ats, said)
-one_line (At at verdict) (Context node at' depth back verdict') reads reads' same =
+one_line (At at verdict) (Context node at' depth back verdict') readable readable' same =
     absurd (no_context_at at node _ _ same)
-one_line (At at verdict) (Unreachable first last) reads reads' same = absurd (no_range_alone verdict (cc same))
-one_line (Context node at depth back verdict) (At at' verdict') reads reads' same =
+one_line (At at verdict) (Unreachable first last) readable readable' same = absurd (no_range_alone verdict (cc same))
+one_line (Context node at depth back verdict) (At at' verdict') readable readable' same =
     absurd (no_context_at at' node _ _ (sym same))
-one_line (Context node at depth back verdict) (Context node' at' depth' back' verdict') reads reads' same =
-    one_configuration node at depth node' at' depth' back back' verdict verdict' reads reads' same
-one_line (Context node at depth back verdict) (Unreachable first last) reads reads' same =
+one_line (Context node at depth back verdict) (Context node' at' depth' back' verdict') readable readable' same =
+    one_configuration node at depth node' at' depth' back back' verdict verdict' readable readable' same
+one_line (Context node at depth back verdict) (Unreachable first last) readable readable' same =
     absurd (no_context_from first node (45 ∷ address_text last) _ _ (sym same))
-one_line (Unreachable first last) (At at verdict) reads reads' same = absurd (no_range_alone verdict (cc same))
-one_line (Unreachable first last) (Context node at depth back verdict) reads reads' same =
+one_line (Unreachable first last) (At at verdict) readable readable' same = absurd (no_range_alone verdict (cc same))
+one_line (Unreachable first last) (Context node at depth back verdict) readable readable' same =
     absurd (no_context_from first node (45 ∷ address_text last) _ _ same)
-one_line (Unreachable first last) (Unreachable first' last') reads reads' same =
-    one_range first last first' last' reads reads' (cc same)
+one_line (Unreachable first last) (Unreachable first' last') readable readable' same =
+    one_range first last first' last' readable readable' (cc same)
 
 -- so are lists of lines
 one_by_one : (lines others : List Line) → AllByRecursion IsReadable lines → AllByRecursion IsReadable others
     → map tokens_of lines ≡ map tokens_of others → lines ≡ others
-one_by_one [] [] reads reads' same = refl
-one_by_one [] (other ∷ others) reads reads' same = absurd (cc same)
-one_by_one (line ∷ lines) [] reads reads' same = absurd (cc same)
-one_by_one (line ∷ lines) (other ∷ others) reads reads' same =
-    let here = one_line line other reads.0 reads'.0 (cc same) in
-    let rest = one_by_one lines others reads.1 reads'.1 (cc same) in
+one_by_one [] [] readable readable' same = refl
+one_by_one [] (other ∷ others) readable readable' same = absurd (cc same)
+one_by_one (line ∷ lines) [] readable readable' same = absurd (cc same)
+one_by_one (line ∷ lines) (other ∷ others) readable readable' same =
+    let here = one_line line other readable.0 readable'.0 (cc same) in
+    let rest = one_by_one lines others readable.1 readable'.1 (cc same) in
     cc (here, rest)
 
 -- ---- without ways
@@ -174,11 +174,11 @@ letters_of (Unknown hit miss) valid =
     )
 
 -- a line that has a text is determined by its words
-readable : (line : Line) → HasText line → IsReadable line
-readable (At at verdict) has = (has.fits, letters_of verdict has.valid)
-readable (Context node at depth back verdict) has =
+readable_of : (line : Line) → HasText line → IsReadable line
+readable_of (At at verdict) has = (has.fits, letters_of verdict has.valid)
+readable_of (Context node at depth back verdict) has =
     (has.fits, letters_of verdict (and_parts (has_back_as_deep depth back) (is_valid_verdict verdict) has.valid).1)
-readable (Unreachable first last) has = (has.fits, tt)
+readable_of (Unreachable first last) has = (has.fits, tt)
 
 -- without its ways a verdict fits, and has no choices but letters
 fits_alone : (verdict : Verdict) → FitsVerdict (verdict_alone verdict) × HasLetters (verdict_alone verdict)
@@ -201,7 +201,7 @@ valid_of (line ∷ lines) have = and_from (is_valid line) (list_all is_valid lin
 -- and determined by their words
 readable_lines : (lines : List Line) → AllByRecursion HasText lines → AllByRecursion IsReadable lines
 readable_lines [] have = tt
-readable_lines (line ∷ lines) have = (readable line have.0, readable_lines lines have.1)
+readable_lines (line ∷ lines) have = (readable_of line have.0, readable_lines lines have.1)
 
 -- also without their ways
 readable_lines_alone : (lines : List Line) → AllByRecursion HasText lines

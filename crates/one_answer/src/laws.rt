@@ -46,8 +46,8 @@ pub fn one_path()
         → Names (successors image entry) way path → Names (successors image entry) way other → path ≡ other }
 {}
 
-/// All of a report but the ways of its unknown lines is told by the program and the geometry, and all of the text of a
-/// graph by the program.
+/// The program and the geometry determine all of a report but the ways of its unknown lines, and the program all of the
+/// text of a graph.
 pub fn one_text()
     ensures report { (image : Image) (entry : ℕ) (g : Geometry) (contexts : Bool) (text other : List ℕ)
         → IsReport image entry g contexts text → IsReport image entry g contexts other → AreAlikeTexts text other }

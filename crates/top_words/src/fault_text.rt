@@ -1,7 +1,9 @@
 ghost use Rattle.std.specs.Prelude.{◌≡◌, ◌++◌, ◌+◌, ◌≤◌, length};
+ghost use Rattle.byte_port.specs.Sent.{Reports};
 ghost use Rattle.top_words.specs.FaultText.{cause_text, elf_text, fault_text, flow_text, met_text, segment_text};
 
 use crate::{ShortText, Status};
+use byte_port::{Sink, send_all};
 use elf_spec::ElfFault;
 use flow_spec::FlowFault;
 
@@ -19,6 +21,14 @@ pub fn text_of(status: &Status) -> ShortText
     push_cause(&mut text, status);
     text.push(b"\n");
     text
+}
+
+/// Sends the text of a status, line end included, to where faults are explained. Where that fails it stays at a prefix of the
+/// text, and nothing is sent again.
+pub fn explain<E: Sink>(err: &mut E, status: &Status)
+    ensures { Reports E.sent E.faults E.refusals E.writes (fault_text status.now) err.old err.new }
+{
+    let _ = send_all(err, text_of(status).as_bytes());
 }
 
 #[tactic(auto, unfolding(crate::specs::FaultText::cause_text))]

@@ -14,7 +14,7 @@ mod tests;
 mod words;
 
 pub use command_spec::Settings;
-pub use fault_text::text_of;
+pub use fault_text::{explain, text_of};
 pub use short_text::ShortText;
 pub use status::Status;
 pub use words::read_words;

@@ -11,7 +11,7 @@ const MOST_HEX_DIGITS: usize = 8;
 
 /// The number that 1 to 10 decimal digits spell. None where the text is anything else.
 #[tactic(auto, using(crate::proofs::Digits::all_by_list))]
-pub fn number_of(text: &str) -> Option<u64>
+pub(crate) fn number_of(text: &str) -> Option<u64>
     ensures { result ≡ number_of text.now }
 {
     if text.is_empty() || text.len() > MOST_DIGITS || !is_digits(text.as_bytes()) {
@@ -27,7 +27,7 @@ fn is_digits(text: &[u8]) -> bool
 }
 
 /// The address that `0x` and 1 to 8 hexadecimal digits of either case spell. None where the text is anything else.
-pub fn address_of(text: &str) -> Option<u32>
+pub(crate) fn address_of(text: &str) -> Option<u32>
     ensures { result ≡ address_of text.now }
 {
     let digits = text.strip_prefix("0x")?;

@@ -7,13 +7,13 @@ ghost use Rattle.top_words.specs.Views.{bytes_of};
 
 /// The commands that have options.
 #[derive(Clone, Copy)]
-pub enum Command {
+pub(crate) enum Command {
     Classify,
     Graph,
 }
 
 /// Whether the words after a command are in plain form: names with their values and flags, none of them twice.
-pub fn is_plain(command: Command, words: &[String]) -> bool
+pub(crate) fn is_plain(command: Command, words: &[String]) -> bool
     ensures { result ≡ is_plain (names_of command) (bytes_of words.now) }
 {
     let mut left = words;
@@ -72,7 +72,7 @@ fn is_name(command: Command, word: &str) -> bool
 }
 
 /// Whether the option stands among the words, as a flag or as a name with its value.
-pub fn has_option(words: &[String], name: &str) -> bool
+pub(crate) fn has_option(words: &[String], name: &str) -> bool
     ensures { result ≡ has_option name.now (bytes_of words.now) }
 {
     let mut left = words;
@@ -90,7 +90,7 @@ pub fn has_option(words: &[String], name: &str) -> bool
 }
 
 /// The value behind a name.
-pub fn value_of<'a>(words: &'a [String], name: &str) -> Option<&'a str>
+pub(crate) fn value_of<'a>(words: &'a [String], name: &str) -> Option<&'a str>
     ensures { option_copied result ≡ value_of name.now (bytes_of words.now) }
 {
     let mut left = words;

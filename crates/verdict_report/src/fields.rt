@@ -11,14 +11,14 @@ use std::str;
 
 /// What stands behind these bytes.
 #[tactic(auto, unfolding(crate::specs::Reading::after))]
-pub fn after<'a>(text: &'a [u8], front: &[u8]) -> Option<&'a [u8]>
+pub(crate) fn after<'a>(text: &'a [u8], front: &[u8]) -> Option<&'a [u8]>
     ensures { Gives (λ behind. behind.now) result (after front.now text.now) }
 {
     text.strip_prefix(front)
 }
 
 /// The text before the first byte of this value, and the text behind that byte.
-pub fn word_at(text: &[u8], end: u8) -> Option<(&[u8], &[u8])>
+pub(crate) fn word_at(text: &[u8], end: u8) -> Option<(&[u8], &[u8])>
     ensures { Gives (λ word. (word.0.now, word.1.now)) result (word_at end text.now) }
 {
     let at = text.iter().position(|byte| *byte == end)?;
@@ -40,7 +40,7 @@ fn number_of(digits: &[u8]) -> Option<u64>
 
 /// A number and the space behind it.
 #[tactic(auto, unfolding(crate::specs::Reading::number_at))]
-pub fn number_at(text: &[u8]) -> Option<(u64, &[u8])>
+pub(crate) fn number_at(text: &[u8]) -> Option<(u64, &[u8])>
     ensures { Gives (λ read. (read.0, read.1.now)) result (number_at text.now) }
 {
     let (digits, behind) = word_at(text, b' ')?;
@@ -49,7 +49,7 @@ pub fn number_at(text: &[u8]) -> Option<(u64, &[u8])>
 
 /// A number below 2 ^ 32, and the space behind it.
 #[tactic(auto, unfolding(crate::specs::Reading::small_at))]
-pub fn small_at(text: &[u8]) -> Option<(u32, &[u8])>
+pub(crate) fn small_at(text: &[u8]) -> Option<(u32, &[u8])>
     ensures { Gives (λ read. (read.0, read.1.now)) result (small_at text.now) }
 {
     let (n, behind) = number_at(text)?;
@@ -70,7 +70,7 @@ fn address_of(front: &[u8; 10]) -> Option<u32>
 }
 
 #[tactic(auto, unfolding(crate::specs::Reading::address_at))]
-pub fn address_at(text: &[u8]) -> Option<(u32, &[u8])>
+pub(crate) fn address_at(text: &[u8]) -> Option<(u32, &[u8])>
     ensures { Gives (λ read. (read.0, read.1.now)) result (address_at text.now) }
 {
     let (front, behind) = text.split_first_chunk::<10>()?;
@@ -79,7 +79,7 @@ pub fn address_at(text: &[u8]) -> Option<(u32, &[u8])>
 
 /// Letters, or none for a dash.
 #[tactic(auto, unfolding(crate::specs::Reading::choices_of))]
-pub fn choices_of(letters: &[u8]) -> Option<&[u8]>
+pub(crate) fn choices_of(letters: &[u8]) -> Option<&[u8]>
     ensures { Gives (λ choices. choices.now) result (choices_of letters.now) }
 {
     if letters == b"-".as_slice() {
@@ -102,7 +102,7 @@ fn are_letters(letters: &[u8]) -> bool
 
 /// The newest return address, if there is one.
 #[tactic(auto, unfolding(crate::specs::Reading::back_at))]
-pub fn back_at(text: &[u8]) -> Option<(Option<u32>, &[u8])>
+pub(crate) fn back_at(text: &[u8]) -> Option<(Option<u32>, &[u8])>
     ensures { Gives (λ read. (read.0, read.1.now)) result (back_at text.now) }
 {
     if let Some(behind) = after(text, b"none") {

@@ -2,14 +2,14 @@
 
 /// A way whose choices stand in the text.
 #[derive(Clone, Copy)]
-pub struct SeenWay<'a> {
-    pub steps: u64,
-    pub choices: &'a [u8],
+pub(crate) struct SeenWay<'a> {
+    pub(crate) steps: u64,
+    pub(crate) choices: &'a [u8],
 }
 
 /// A verdict whose choices stand in the text.
 #[derive(Clone, Copy)]
-pub enum SeenVerdict<'a> {
+pub(crate) enum SeenVerdict<'a> {
     AlwaysHit,
     AlwaysMiss,
     Unknown { hit: SeenWay<'a>, miss: SeenWay<'a> },
@@ -17,7 +17,7 @@ pub enum SeenVerdict<'a> {
 
 /// What a line with a verdict speaks of.
 #[derive(Clone, Copy)]
-pub enum Subject {
+pub(crate) enum Subject {
     Address {
         at: u32,
     },

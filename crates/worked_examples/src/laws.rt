@@ -64,10 +64,10 @@ pub fn worked_texts()
 {}
 
 /// Texts are alike where their unknown lines have other ways, and not where a verdict differs. That holds of a verdict
-/// after an unknown line and between two: what stands after the first one can't be taken for its choices.
+/// behind an unknown line and between two: what stands behind the first one can't be taken for its choices.
 pub fn worked_alikeness()
     ensures other_ways { AreAlikeTexts hit_between hit_by_other_ways }
-    ensures after_unknown { AreAlikeTexts hit_after miss_after → ⊥ }
+    ensures behind_unknown { AreAlikeTexts hit_after miss_after → ⊥ }
     ensures between_unknown { AreAlikeTexts hit_between miss_between → ⊥ }
 {}
 

@@ -3,11 +3,11 @@ use Rattle.std.proofs.lemmas.List.{map-append}
 use Rattle.std.proofs.lemmas.List.Elements.{All-push}
 use Rattle.std.specs.List.{All}
 use Rattle.focus_plain.specs.declared.judging.Judged.{Judged}
-use Rattle.focus_plain.specs.Judged.{IsOutcome}
+use Rattle.focus_plain.specs.Judged.{IsClassification}
 use Rattle.focus_plain.proofs.Equals.{same_number, other_number}
 use Rattle.focus_plain.proofs.Fetchers.{AreFetchersBelow, fetchers_more, fetchers_passed, fetchers_all}
 use Rattle.focus_plain.proofs.judging.judge.Goals as goal
-use Rattle.focus_plain.proofs.judging.judge.Goals.{then-eq+in_ok-outcome+in_ok-push, else-eq}
+use Rattle.focus_plain.proofs.judging.judge.Goals.{then-eq+in_ok-classification+in_ok-push, else-eq}
 
 -- the node of each
 nodes_of : List Judged → List ℕ
@@ -18,16 +18,18 @@ unfolding nodes_of
 loop-node-preserved c =
     let view = c.args.view.now in
     let judged = c.loop-node.judged.items in
-    let Right : Judged → Type 0 = λ j. IsOutcome view j.node j.outcome in
+    let Right : Judged → Type 0 = λ j. IsClassification view j.node j.classification in
     elim c.if-eq.branch [
-      | then-eq+in_ok-outcome+in_ok-push w ↦
+      | then-eq+in_ok-classification+in_ok-push w ↦
           let fetched = sym c.fetch.ensures ∙ same_number c.fetch.result c.args.block (sym c.eq.ensures ∙ w.if-eq.true) in
-          let last : Judged = record { node = c.loop-node.node; outcome = w.in_ok-outcome.outcome } in
+          let found = w.in_ok-classification in
+          let last : Judged = record { node = c.loop-node.node; classification = found.classification } in
           let new_is : c.if-eq.judged.items ≡ judged ++ last ∷ [] = ap (λ (v : Vec Judged Global). v.items) w.judged-is ∙ w.in_ok-push.ensures.items in
           record {
             nodes = fetchers_more view.fetches c.args.block c.loop-node.node (nodes_of judged) (nodes_of c.if-eq.judged.items) c.loop-node.invariant.nodes fetched
                 (ap nodes_of new_is ∙ map-append (λ (j : Judged). j.node) judged (last ∷ []));
-            outcomes = subst (λ (js : List Judged). All Right js) (sym new_is) (All-push Right judged last c.loop-node.invariant.outcomes w.in_ok-outcome.ensures);
+            classifications = subst (λ (js : List Judged). All Right js) (sym new_is)
+                (All-push Right judged last c.loop-node.invariant.classifications found.ensures);
           }
       | else-eq w ↦
           let other = other_number c.fetch.result c.args.block (sym c.eq.ensures ∙ w.if-eq.false) in
@@ -35,7 +37,7 @@ loop-node-preserved c =
           record {
             nodes = subst (λ (js : List Judged). AreFetchersBelow view.fetches c.args.block (c.loop-node.node + 1) (nodes_of js)) kept
                 (fetchers_passed view.fetches c.args.block c.loop-node.node (nodes_of judged) c.loop-node.invariant.nodes (λ same. other (c.fetch.ensures ∙ same)));
-            outcomes = subst (λ (js : List Judged). All Right js) kept c.loop-node.invariant.outcomes;
+            classifications = subst (λ (js : List Judged). All Right js) kept c.loop-node.invariant.classifications;
           }
     ]
 

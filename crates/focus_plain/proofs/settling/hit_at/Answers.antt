@@ -2,7 +2,7 @@ use Rattle.std.proofs.Common.{◌≡◌, ◌<◌, true, List, Some, None, length
 use Rattle.std.proofs.lemmas.List.{get_or_read}
 use Rattle.path_model.specs.declared.graph.Node.{Node}
 use Rattle.focus_plain.specs.Entries.{latest_at, trail_of}
-use Rattle.focus_plain.specs.Outcomes.{IsWayOf}
+use Rattle.focus_plain.specs.Ways.{IsWayOf}
 use Rattle.focus_plain.proofs.Fates.{noted_way, none_small}
 use Rattle.focus_plain.proofs.settling.hit_at.Goals as goal
 

@@ -1,11 +1,12 @@
-use Rattle.std.proofs.Common.{◌≡◌, ℕ, ◌+◌, ◌≤◌, List, ◌++◌, length, take, ap, subst, arith}
+use Rattle.std.proofs.Common.{◌≡◌, ℕ, ◌+◌, ◌≤◌, List, ◌++◌, length, take, ap, subst, Err, arith}
 use Rattle.std.proofs.lemmas.Grind.{common_steps}
 use Rattle.std.proofs.lemmas.Result.{on_ok_weaker, on_err_weaker}
 use Rattle.std.specs.Prelude.{flat_map}
 use Rattle.byte_port.specs.Stream.{SendsPrefix}
 use Rattle.path_model.specs.declared.graph.Node.{Node}
-use Rattle.line_sender.specs.Pending.{Pending}
-use Rattle.line_sender.proofs.Pending.{Pending-line, SendsPrefix-line, SendsPrefix-pending, Appends-pending}
+use Rattle.byte_port.proofs.Moves.{MovesSome-trans}
+use Rattle.line_sender.specs.Pending.{Pending, WritesBy}
+use Rattle.line_sender.proofs.Pending.{Pending-line, SendsPrefix-line, SendsPrefix-pending, Appends-pending, WritesBy-after}
 use Rattle.report_spec.specs.Graph.{graph_line_text}
 use Rattle.icache_top.specs.GraphLines.{graph_lines_of, graph_text_of}
 use Rattle.icache_top.proofs.GraphText.{text-take_more, SendsPrefix-take, take_all}
@@ -28,6 +29,8 @@ loop-node-preserved g c = record {
       (Pending-line _ _ _ _ _ _ _ c.loop-node.invariant.pending c.in_ok-send_graph_line.ensures.pending);
   faults = grind (arith, c.in_ok-send_graph_line.ensures.faults, c.loop-node.invariant.faults);
   refusals = grind (arith, c.in_ok-send_graph_line.ensures.refusals, c.loop-node.invariant.refusals);
+  writes = MovesSome-trans g.O.Sink.writes c.args.out.now c.loop-node.out c.send_graph_line.new.out c.loop-node.invariant.writes
+      c.in_ok-send_graph_line.ensures.writes;
 }
 
 pub returns-clause-whole : goal.returns-clause-whole
@@ -45,3 +48,16 @@ returns-clause-part g c =
     on_err_weaker c.finish.result
     (λ part. SendsPrefix-take _ _ (graph_lines_of c.args.expanded.now) c.loop-node.node (SendsPrefix-pending _ _ _ _ _ c.loop-node.invariant.pending part))
     c.finish.ensures.part
+
+pub returns-in_err-send_graph_line-clause-writes : goal.returns-in_err-send_graph_line-clause-writes
+returns-in_err-send_graph_line-clause-writes g c =
+    let stop = c.in_err-send_graph_line.field-0.0 in
+    let ends : WritesBy {T = Unit {0}} g.O.Sink.writes (Err stop) c.args.out.now c.send_graph_line.new.out =
+    WritesBy-after {T = Unit {0}} g.O.Sink.writes (Err stop) c.args.out.now c.loop-node.out c.send_graph_line.new.out c.loop-node.invariant.writes
+    c.in_err-send_graph_line.ensures.writes in
+    grind (arith, common_steps, ends)
+
+pub returns-clause-writes : goal.returns-clause-writes
+returns-clause-writes g c =
+    WritesBy-after g.O.Sink.writes c.finish.result c.args.out.now c.loop-node.out c.finish.new.out c.loop-node.invariant.writes
+    c.finish.ensures.writes

@@ -2,9 +2,9 @@ use Rattle.std.proofs.Common.{◌≡◌, ℕ, ◌<◌, true, false, List, Some, 
 use Rattle.std.proofs.lemmas.List.{get_or_read}
 use Rattle.path_model.specs.declared.graph.Node.{Node}
 use Rattle.focus_plain.specs.Entries.{latest_at, trail_of}
-use Rattle.focus_plain.specs.Outcomes.{IsWayOf}
+use Rattle.focus_plain.specs.Ways.{IsWayOf}
 use Rattle.focus_plain.proofs.Fates.{noted_way, none_small, none_large}
-use Rattle.focus_plain.proofs.judging.outcome_at.Goals as goal
+use Rattle.focus_plain.proofs.judging.classification_at.Goals as goal
 
 pub way_of-requires-clause-inside : goal.way_of-requires-clause-inside
 way_of-requires-clause-inside c =
