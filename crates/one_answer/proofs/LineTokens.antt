@@ -1,4 +1,4 @@
--- The words of lines, and that a text has the words of valid lines in one way.
+-- The words of lines: valid lines with one text have the same words.
 use Rattle.std.proofs.Common.{◌≡◌, ℕ, ◌<◌, true, List, [], ◌∷◌, ◌++◌, map, get_or, decimal, refl, ap, sym, ◌∙◌, append_assoc, arith}
 use Rattle.std.specs.Prelude.{codes, flat_map, nat_lt}
 use Rattle.std.specs.List.{list_all}
@@ -33,19 +33,22 @@ tokens_of (Unreachable first last) =
 
 -- ---- a line's text is its words
 
-verdict_written : (verdict : Verdict) (behind : List ℕ)
-    → said_text verdict ++ behind ≡ 32 ∷ written (verdict_tokens verdict) behind
-verdict_written AlwaysHit behind = refl
-verdict_written AlwaysMiss behind = refl
-verdict_written (Unknown hit miss) behind = simp append_assoc
+-- the end of a line with a verdict is a space and the words of the verdict
+verdict_written : (verdict : Verdict) (after : List ℕ)
+    → said_text verdict ++ after ≡ 32 ∷ written (verdict_tokens verdict) after
+verdict_written AlwaysHit after = refl
+verdict_written AlwaysMiss after = refl
+verdict_written (Unknown hit miss) after = simp append_assoc
 
-line_written : (line : Line) (behind : List ℕ) → line_text line ++ behind ≡ written (tokens_of line) behind
-line_written (At at verdict) behind = rw (append_assoc, verdict_written verdict behind) refl
-line_written (Context node at depth back verdict) behind =
-    append_assoc (context_text node at depth back) (said_text verdict) behind
-    ∙ ap (λ said. context_text node at depth back ++ said) (verdict_written verdict behind) ∙ simp append_assoc
-line_written (Unreachable first last) behind = simp append_assoc
+-- the text of a line is its words
+line_written : (line : Line) (after : List ℕ) → line_text line ++ after ≡ written (tokens_of line) after
+line_written (At at verdict) after = rw (append_assoc, verdict_written verdict after) refl
+line_written (Context node at depth back verdict) after =
+    append_assoc (context_text node at depth back) (said_text verdict) after
+    ∙ ap (λ said. context_text node at depth back ++ said) (verdict_written verdict after) ∙ simp append_assoc
+line_written (Unreachable first last) after = simp append_assoc
 
+-- the text of lines is their words
 text_written : (lines : List Line) → text_of lines ≡ written (flat_map tokens_of lines) []
 text_written [] = refl
 text_written (line ∷ lines) =
@@ -54,6 +57,7 @@ text_written (line ∷ lines) =
 
 -- ---- the words of valid lines are words
 
+-- those of a verdict
 verdict_words : (verdict : Verdict) → is_valid_verdict verdict ≡ true
     → list_all is_token (verdict_tokens verdict) ≡ true
 verdict_words AlwaysHit valid = refl
@@ -66,6 +70,7 @@ verdict_words (Unknown hit miss) valid =
     let miss_word = choices_word miss.choices misses.1 in
     rw (decimal_word hit.steps, hit_word, decimal_word miss.steps, miss_word) refl
 
+-- those of a line
 line_words : (line : Line) → is_valid line ≡ true → list_all is_token (tokens_of line) ≡ true
 line_words (At at verdict) valid = rw (address_word at, verdict_words verdict valid) refl
 line_words (Context node at depth back verdict) valid =
@@ -73,6 +78,7 @@ line_words (Context node at depth back verdict) valid =
     rw (decimal_word node, address_word at, decimal_word depth, back_word back, verdict_words verdict said) refl
 line_words (Unreachable first last) valid = rw (range_word first last) refl
 
+-- those of lines
 lines_words : (lines : List Line) → list_all is_valid lines ≡ true → list_all is_token (flat_map tokens_of lines) ≡ true
 lines_words [] valid = refl
 lines_words (line ∷ lines) valid =
@@ -81,26 +87,23 @@ lines_words (line ∷ lines) valid =
     ∙ and_from (list_all is_token (tokens_of line)) (list_all is_token (flat_map tokens_of lines))
     (line_words line parts.0) (lines_words lines parts.1)
 
--- ---- words behind one another are those of lines in one way
+-- ---- a list of words is cut into lines in one way
 
-verdict_front : (verdict other : Verdict) (xs ys : List Token)
+-- words that begin with two verdicts begin with the words of one
+first_verdict : (verdict other : Verdict) (xs ys : List Token)
     → verdict_tokens verdict ++ xs ≡ verdict_tokens other ++ ys
     → (verdict_tokens verdict ≡ verdict_tokens other) × (xs ≡ ys)
-verdict_front AlwaysHit AlwaysHit xs ys same = (refl, cc same)
-verdict_front AlwaysHit AlwaysMiss xs ys same = absurd (cc same)
-verdict_front AlwaysHit (Unknown hit miss) xs ys same = absurd (cc same)
-verdict_front AlwaysMiss AlwaysHit xs ys same = absurd (cc same)
-verdict_front AlwaysMiss AlwaysMiss xs ys same = (refl, cc same)
-verdict_front AlwaysMiss (Unknown hit miss) xs ys same = absurd (cc same)
-verdict_front (Unknown hit miss) AlwaysHit xs ys same = absurd (cc same)
-verdict_front (Unknown hit miss) AlwaysMiss xs ys same = absurd (cc same)
-verdict_front (Unknown hit miss) (Unknown hit' miss') xs ys same = (cc same, cc same)
+first_verdict AlwaysHit AlwaysHit xs ys same = (refl, cc same)
+first_verdict AlwaysMiss AlwaysMiss xs ys same = (refl, cc same)
+first_verdict (Unknown hit miss) (Unknown hit' miss') xs ys same = (cc same, cc same)
+first_verdict verdict other xs ys same = absurd (cc same)
 
 -- the third byte of the first word
 abbrev third : List Token → ℕ
 third [] = 0
 third (token ∷ tokens) = get_or (word_of token) 2 0
 
+-- different numbers
 apart : (m n : ℕ) → m < n → m ≡ n → ⊥
 apart m n less same = omega arith
 
@@ -111,50 +114,50 @@ no_range AlwaysHit xs ys same = apart 114 119 (omega arith) (sym (ap third same)
 no_range AlwaysMiss xs ys same = apart 114 119 (omega arith) (sym (ap third same))
 no_range (Unknown hit miss) xs ys same = apart 107 114 (omega arith) (ap third same)
 
--- no address begins as a configuration does
+-- no address begins as the number of a configuration does
 no_number : (p : ℕ) (xs ys : List ℕ) → address_text p ++ xs ≡ 35 ∷ ys → ⊥
 unfolding address_text
 no_number p xs ys same = cc same
 
--- so no line by address does
+-- so no line by address begins as one with contexts does
 pub no_context_at : (p node : ℕ) (xs ys : List Token) → spaced (address_text p) ∷ xs ≡ spaced (35 ∷ decimal node) ∷ ys
     → ⊥
 no_context_at p node xs ys same =
     let heads : address_text p ≡ 35 ∷ decimal node = cc same in
     no_number p [] (decimal node) (append-nil (address_text p) ∙ heads)
 
--- and no range
+-- nor does a range
 pub no_context_from : (first node : ℕ) (more : List ℕ) (xs ys : List Token)
     → spaced (address_text first ++ more) ∷ xs ≡ spaced (35 ∷ decimal node) ∷ ys → ⊥
 no_context_from first node more xs ys same =
     let heads : address_text first ++ more ≡ 35 ∷ decimal node = cc same in no_number first more (decimal node) heads
 
--- the words of two lines, whatever is behind them
-line_front : (line other : Line) (xs ys : List Token) → tokens_of line ++ xs ≡ tokens_of other ++ ys
+-- words that begin with two lines begin with the words of one
+first_line : (line other : Line) (xs ys : List Token) → tokens_of line ++ xs ≡ tokens_of other ++ ys
     → (tokens_of line ≡ tokens_of other) × (xs ≡ ys)
-line_front (At at verdict) (At at' verdict') xs ys same =
+first_line (At at verdict) (At at' verdict') xs ys same =
     let heads : address_text at ≡ address_text at' = cc same in
     let rest : verdict_tokens verdict ++ xs ≡ verdict_tokens verdict' ++ ys = cc same in
-    let (said, behind) = verdict_front verdict verdict' xs ys rest in
-    (cc (heads, said), behind)
-line_front (At at verdict) (Context node at' depth back verdict') xs ys same = absurd (no_context_at at node _ _ same)
-line_front (At at verdict) (Unreachable first last) xs ys same = absurd (no_range verdict xs ys (cc same))
-line_front (Context node at depth back verdict) (At at' verdict') xs ys same =
+    let (said, after) = first_verdict verdict verdict' xs ys rest in
+    (cc (heads, said), after)
+first_line (At at verdict) (Context node at' depth back verdict') xs ys same = absurd (no_context_at at node _ _ same)
+first_line (At at verdict) (Unreachable first last) xs ys same = absurd (no_range verdict xs ys (cc same))
+first_line (Context node at depth back verdict) (At at' verdict') xs ys same =
     absurd (no_context_at at' node _ _ (sym same))
-line_front (Context node at depth back verdict) (Context node' at' depth' back' verdict') xs ys same =
+first_line (Context node at depth back verdict) (Context node' at' depth' back' verdict') xs ys same =
     let numbers : decimal node ≡ decimal node' = cc same in
     let heads : address_text at ≡ address_text at' = cc same in
     let deep : decimal depth ≡ decimal depth' = cc same in
     let backs : back_text back ≡ back_text back' = cc same in
     let rest : verdict_tokens verdict ++ xs ≡ verdict_tokens verdict' ++ ys = cc same in
-    let (said, behind) = verdict_front verdict verdict' xs ys rest in
-    (cc (numbers, heads, deep, backs, said), behind)
-line_front (Context node at depth back verdict) (Unreachable first last) xs ys same =
+    let (said, after) = first_verdict verdict verdict' xs ys rest in
+    (cc (numbers, heads, deep, backs, said), after)
+first_line (Context node at depth back verdict) (Unreachable first last) xs ys same =
     absurd (no_context_from first node (45 ∷ address_text last) _ _ (sym same))
-line_front (Unreachable first last) (At at verdict) xs ys same = absurd (no_range verdict ys xs (cc same))
-line_front (Unreachable first last) (Context node at depth back verdict) xs ys same =
+first_line (Unreachable first last) (At at verdict) xs ys same = absurd (no_range verdict ys xs (cc same))
+first_line (Unreachable first last) (Context node at depth back verdict) xs ys same =
     absurd (no_context_from first node (45 ∷ address_text last) _ _ same)
-line_front (Unreachable first last) (Unreachable first' last') xs ys same = (cc same, cc same)
+first_line (Unreachable first last) (Unreachable first' last') xs ys same = (cc same, cc same)
 
 -- a line has some words
 no_words : (line : Line) (xs : List Token) → tokens_of line ++ xs ≡ [] → ⊥
@@ -162,14 +165,15 @@ no_words (At at verdict) xs none = cc none
 no_words (Context node at depth back verdict) xs none = cc none
 no_words (Unreachable first last) xs none = cc none
 
-lines_front : (lines others : List Line) → flat_map tokens_of lines ≡ flat_map tokens_of others
+-- the words of lines determine those of each line
+line_by_line : (lines others : List Line) → flat_map tokens_of lines ≡ flat_map tokens_of others
     → map tokens_of lines ≡ map tokens_of others
-lines_front [] [] same = refl
-lines_front [] (other ∷ others) same = absurd (no_words other (flat_map tokens_of others) (sym same))
-lines_front (line ∷ lines) [] same = absurd (no_words line (flat_map tokens_of lines) same)
-lines_front (line ∷ lines) (other ∷ others) same =
-    let (here, behind) = line_front line other (flat_map tokens_of lines) (flat_map tokens_of others) same in
-    let rest = lines_front lines others behind in
+line_by_line [] [] same = refl
+line_by_line [] (other ∷ others) same = absurd (no_words other (flat_map tokens_of others) (sym same))
+line_by_line (line ∷ lines) [] same = absurd (no_words line (flat_map tokens_of lines) same)
+line_by_line (line ∷ lines) (other ∷ others) same =
+    let (here, after) = first_line line other (flat_map tokens_of lines) (flat_map tokens_of others) same in
+    let rest = line_by_line lines others after in
     cc (here, rest)
 
 -- valid lines with one text have the same words
@@ -177,7 +181,7 @@ pub same_words : (lines others : List Line) → list_all is_valid lines ≡ true
     → text_of lines ≡ text_of others
     → map tokens_of lines ≡ map tokens_of others
 same_words lines others valid valid' same =
-    lines_front lines others
+    line_by_line lines others
     (one_cut (flat_map tokens_of lines) (flat_map tokens_of others)
     (lines_words lines valid) (lines_words others valid')
     (sym (text_written lines) ∙ same ∙ text_written others))

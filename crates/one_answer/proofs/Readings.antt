@@ -14,7 +14,7 @@ use Rattle.report_spec.specs.HasText.{FitsVerdict, FitsLine, HasText}
 use Rattle.report_spec.specs.Text.{address_text, back_text, text_of}
 use Rattle.report_spec.specs.Valid.{is_letter, is_valid_way, is_valid_verdict, has_back_as_deep, is_valid}
 use Rattle.one_answer.specs.Alike.{verdict_alone, line_alone, AreAlike, AreAlikeTexts}
-use Rattle.one_answer.proofs.Fields.{address_injective, address_front, back_injective, choices_injective}
+use Rattle.one_answer.proofs.Fields.{address_injective, first_address, back_injective, choices_injective}
 use Rattle.one_answer.proofs.Tokens.{ended}
 use Rattle.one_answer.proofs.LineTokens.{verdict_tokens, tokens_of, no_range, no_context_at, no_context_from, same_words}
 
@@ -24,7 +24,7 @@ HasLetters AlwaysHit = Unit {0}
 HasLetters AlwaysMiss = Unit {0}
 HasLetters (Unknown hit miss) = (list_all is_letter hit.choices ≡ true) × (list_all is_letter miss.choices ≡ true)
 
--- the numbers of a line fit, and its choices are letters: its words tell it
+-- the numbers of a line fit, and its choices are letters
 abbrev IsReadable : Line → Type 0
 IsReadable (At at verdict) = FitsLine (At at verdict) × HasLetters verdict
 IsReadable (Context node at depth back verdict) = FitsLine (Context node at depth back verdict) × HasLetters verdict
@@ -36,24 +36,19 @@ one_way way other steps choices =
     let made : ℕ → List ℕ → Way = λ n letters. record { steps = n; choices = letters } in
     ap (λ n. made n way.choices) steps ∙ ap (made other.steps) choices
 
--- the words of a verdict tell it
+-- a verdict is determined by its words
 one_verdict : (verdict other : Verdict) → FitsVerdict verdict → FitsVerdict other → HasLetters verdict
     → HasLetters other
     → verdict_tokens verdict ≡ verdict_tokens other → verdict ≡ other
 one_verdict AlwaysHit AlwaysHit fits fits' has has' same = refl
-one_verdict AlwaysHit AlwaysMiss fits fits' has has' same = absurd (cc same)
-one_verdict AlwaysHit (Unknown hit miss) fits fits' has has' same = absurd (cc same)
-one_verdict AlwaysMiss AlwaysHit fits fits' has has' same = absurd (cc same)
 one_verdict AlwaysMiss AlwaysMiss fits fits' has has' same = refl
-one_verdict AlwaysMiss (Unknown hit miss) fits fits' has has' same = absurd (cc same)
-one_verdict (Unknown hit miss) AlwaysHit fits fits' has has' same = absurd (cc same)
-one_verdict (Unknown hit miss) AlwaysMiss fits fits' has has' same = absurd (cc same)
 one_verdict (Unknown hit miss) (Unknown hit' miss') fits fits' has has' same =
     let hits : hit ≡ hit' = one_way hit hit' (decimal_injective hit.steps hit'.steps fits.0 fits'.0 (cc same))
     (choices_injective hit.choices hit'.choices has.0 has'.0 (cc same)) in
     let misses : miss ≡ miss' = one_way miss miss' (decimal_injective miss.steps miss'.steps fits.1 fits'.1 (cc same))
     (choices_injective miss.choices miss'.choices has.1 has'.1 (cc same)) in
     cc (hits, misses)
+one_verdict verdict other fits fits' has has' same = absurd (cc same)
 
 -- ---- the words of a line
 
@@ -61,15 +56,17 @@ one_verdict (Unknown hit miss) (Unknown hit' miss') fits fits' has has' same =
 one_number : (n m : ℕ) → n < 2 ^ 32 → m < 2 ^ 32 → decimal n ≡ decimal m → n ≡ m
 one_number n m fits fits' same = decimal_injective n m (omega arith) (omega arith) same
 
+-- a range is determined by its words
 one_range : (first last first' last' : ℕ) → IsReadable (Unreachable first last) → IsReadable (Unreachable first' last')
     → address_text first ++ (45 ∷ address_text last) ≡ address_text first' ++ (45 ∷ address_text last')
     → Unreachable first last ≡ Unreachable first' last'
 one_range first last first' last' readable readable' same =
-    let (firsts, behind) = address_front first first' (45 ∷ address_text last) (45 ∷ address_text last') same in
+    let (firsts, after) = first_address first first' (45 ∷ address_text last) (45 ∷ address_text last') same in
     let begins = address_injective first first' readable.0.0 readable'.0.0 firsts in
-    let ends = address_injective last last' readable.0.1 readable'.0.1 (cc behind) in
+    let ends = address_injective last last' readable.0.1 readable'.0.1 (cc after) in
     cc (begins, ends)
 
+-- a line of a configuration is determined by its words
 one_configuration : (node at depth node' at' depth' : ℕ) (back back' : Option ℕ) (verdict verdict' : Verdict)
     → IsReadable (Context node at depth back verdict) → IsReadable (Context node' at' depth' back' verdict')
     → tokens_of (Context node at depth back verdict) ≡ tokens_of (Context node' at' depth' back' verdict')
@@ -86,7 +83,7 @@ one_configuration node at depth node' at' depth' back back' verdict verdict' rea
 no_range_alone : (verdict : Verdict) → verdict_tokens verdict ≡ ended (codes "unreachable") ∷ [] → ⊥
 no_range_alone verdict same = no_range verdict [] [] (append-nil (verdict_tokens verdict) ∙ same)
 
--- the words of a line tell it
+-- each line is determined by its words
 one_line : (line other : Line) → IsReadable line → IsReadable other → tokens_of line ≡ tokens_of other → line ≡ other
 one_line (At at verdict) (At at' verdict') readable readable' same =
     let ats = address_injective at at' readable.0.0 readable'.0.0 (cc same) in
@@ -107,7 +104,7 @@ one_line (Unreachable first last) (Context node at depth back verdict) readable 
 one_line (Unreachable first last) (Unreachable first' last') readable readable' same =
     one_range first last first' last' readable readable' (cc same)
 
--- the words of lines tell them
+-- so are lists of lines
 one_by_one : (lines others : List Line) → AllByRecursion IsReadable lines → AllByRecursion IsReadable others
     → map tokens_of lines ≡ map tokens_of others → lines ≡ others
 one_by_one [] [] readable readable' same = refl
@@ -153,6 +150,7 @@ line_words_alone (Unreachable first last) (Context node at depth back verdict) s
     absurd (no_context_from first node (45 ∷ address_text last) _ _ same)
 line_words_alone (Unreachable first last) (Unreachable first' last') same = same
 
+-- and lists of lines
 words_alone : (lines others : List Line) → map tokens_of lines ≡ map tokens_of others
     → map tokens_of (map line_alone lines) ≡ map tokens_of (map line_alone others)
 words_alone [] [] same = refl
@@ -175,51 +173,57 @@ letters_of (Unknown hit miss) valid =
       (and_parts (nat_lt 0 miss.steps) (list_all is_letter miss.choices) ways.1).1,
     )
 
+-- a line that has a text is determined by its words
 readable_of : (line : Line) → HasText line → IsReadable line
 readable_of (At at verdict) has = (has.fits, letters_of verdict has.valid)
 readable_of (Context node at depth back verdict) has =
     (has.fits, letters_of verdict (and_parts (has_back_as_deep depth back) (is_valid_verdict verdict) has.valid).1)
 readable_of (Unreachable first last) has = (has.fits, tt)
 
--- without its ways a verdict fits
+-- without its ways a verdict fits, and has no choices but letters
 fits_alone : (verdict : Verdict) → FitsVerdict (verdict_alone verdict) × HasLetters (verdict_alone verdict)
 fits_alone AlwaysHit = (tt, tt)
 fits_alone AlwaysMiss = (tt, tt)
 fits_alone (Unknown hit miss) = ((omega arith, omega arith), (refl, refl))
 
+-- without its ways a line that has a text is determined by its words
 readable_alone : (line : Line) → HasText line → IsReadable (line_alone line)
 readable_alone (At at verdict) has = let (fits, letters) = fits_alone verdict in ((has.fits.0, fits), letters)
 readable_alone (Context node at depth back verdict) has =
     let (fits, letters) = fits_alone verdict in ((has.fits.0, has.fits.1, has.fits.2, has.fits.3, fits), letters)
 readable_alone (Unreachable first last) has = (has.fits, tt)
 
+-- lines that have a text are valid
 valid_of : (lines : List Line) → AllByRecursion HasText lines → list_all is_valid lines ≡ true
 valid_of [] have = refl
 valid_of (line ∷ lines) have = and_from (is_valid line) (list_all is_valid lines) have.0.valid (valid_of lines have.1)
 
+-- and determined by their words
 readable_lines : (lines : List Line) → AllByRecursion HasText lines → AllByRecursion IsReadable lines
 readable_lines [] have = tt
 readable_lines (line ∷ lines) have = (readable_of line have.0, readable_lines lines have.1)
 
-readable_lines_alone : (lines : List Line) → AllByRecursion HasText lines → AllByRecursion IsReadable (map line_alone lines)
+-- also without their ways
+readable_lines_alone : (lines : List Line) → AllByRecursion HasText lines
+    → AllByRecursion IsReadable (map line_alone lines)
 readable_lines_alone [] have = tt
 readable_lines_alone (line ∷ lines) have = (readable_alone line have.0, readable_lines_alone lines have.1)
 
--- lines with one text are the same lines
+-- lines that have one text are the same lines
 pub one_reading : (lines others : List Line) → AllByRecursion HasText lines → AllByRecursion HasText others
     → text_of lines ≡ text_of others → lines ≡ others
 one_reading lines others have have' same =
     one_by_one lines others (readable_lines lines have) (readable_lines others have')
     (same_words lines others (valid_of lines have) (valid_of others have') same)
 
--- texts of lines that are alike are alike
+-- lines that are alike have texts that are alike
 pub texts_alike : (lines others : List Line) → AllByRecursion HasText lines → AllByRecursion HasText others
     → AreAlike lines others
     → AreAlikeTexts (text_of lines) (text_of others)
 texts_alike lines others have have' alike =
     (lines, others, (valid_of lines have, refl), (valid_of others have', refl), alike)
 
--- and only these
+-- and no other lines have
 pub lines_alike : (lines others : List Line) → AllByRecursion HasText lines → AllByRecursion HasText others
     → AreAlikeTexts (text_of lines) (text_of others) → AreAlike lines others
 lines_alike lines others have have' (read, read', (valid, is), (valid', is'), alike) =
