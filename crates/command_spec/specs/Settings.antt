@@ -1,23 +1,35 @@
--- The settings that the words of a command line give, if they give any. The words lack the program's name.
+-- The settings that the arguments of a command line give, if they give any. The arguments lack the program's name.
 -- Commands, names, defaults and ranges are this project's own.
 use Rattle.std.specs.Prelude.{ℕ, List, [], ◌∷◌, Option, Some, None, option_map, option_and_then, codes, bytes_eq, if◌then◌else◌}
 use Rattle.cache_spec.specs.Geometry.{Geometry, is_in_range}
+use Rattle.command_spec.specs.declared.settings.Ask.{Ask}
+use Rattle.command_spec.specs.declared.settings.Ask.TheVariants.{Report, Graph}
+use Rattle.command_spec.specs.declared.settings.Command.{Command}
+use Rattle.command_spec.specs.declared.settings.Command.TheVariants as commands
+use Rattle.command_spec.specs.declared.settings.ReportAsk.{ReportAsk}
 use Rattle.command_spec.specs.declared.settings.Settings.{Settings}
-use Rattle.command_spec.specs.declared.settings.Settings.TheVariants.{Classify, Graph}
 use Rattle.command_spec.specs.Number.{number_of, address_of}
-use Rattle.command_spec.specs.Plain.{value_of, has_option, is_plain}
+use Rattle.command_spec.specs.Plain.{OptionKind, valued, flag, value_of, has_option, is_plain}
 
--- the options of `classify`
-abbrev pub classify_names : List (List ℕ)
-classify_names = codes "--line" ∷ codes "--sets" ∷ codes "--ways" ∷ codes "--entry" ∷ codes "--contexts" ∷ []
+-- the options of a command
+abbrev pub options_of : Command → List OptionKind
+options_of commands.Classify =
+    valued (codes "--line")
+    ∷ valued (codes "--sets")
+    ∷ valued (codes "--ways")
+    ∷ valued (codes "--entry")
+    ∷ flag (codes "--contexts")
+    ∷ []
+options_of commands.Graph = valued (codes "--entry") ∷ []
 
 -- the number that a value spells, or the default where no value is given
 abbrev pub number_or : ℕ → Option (List ℕ) → Option ℕ
 number_or default None = Some default
 number_or default (Some text) = number_of text
 
+-- the number after a name of `classify`, or the default
 abbrev pub number_at : List ℕ → ℕ → List (List ℕ) → Option ℕ
-number_at name default words = number_or default (value_of name words)
+number_at name default arguments = number_or default (value_of (options_of commands.Classify) name arguments)
 
 -- the geometry of three numbers, where they are in their ranges
 abbrev pub geometry_of : ℕ → ℕ → ℕ → Option Geometry
@@ -26,45 +38,57 @@ geometry_of line sets ways =
     then Some (record { line = line; sets = sets; ways = ways })
     else None
 
--- 32 bytes a line, 64 sets and 4 ways unless the words say otherwise
+-- 32 bytes a line, 64 sets and 4 ways unless the arguments say otherwise
 abbrev pub geometry_in : List (List ℕ) → Option Geometry
-geometry_in words =
+geometry_in arguments =
     option_and_then (λ line.
     option_and_then (λ sets.
-    option_and_then (λ ways. geometry_of line sets ways) (number_at (codes "--ways") 4 words))
-    (number_at (codes "--sets") 64 words))
-    (number_at (codes "--line") 32 words)
+    option_and_then (λ ways. geometry_of line sets ways) (number_at (codes "--ways") 4 arguments))
+    (number_at (codes "--sets") 64 arguments))
+    (number_at (codes "--line") 32 arguments)
 
 -- the address that a value spells; no value is one that asks for nothing
 abbrev pub address_if : Option (List ℕ) → Option (Option ℕ)
 address_if None = Some None
 address_if (Some text) = option_map Some (address_of text)
 
--- where the program is to begin, if the words say so
-abbrev pub entry_in : List (List ℕ) → Option (Option ℕ)
-entry_in words = address_if (value_of (codes "--entry") words)
+-- where the program is to begin, if the arguments say so
+abbrev pub entry_in : Command → List (List ℕ) → Option (Option ℕ)
+entry_in command arguments = address_if (value_of (options_of command) (codes "--entry") arguments)
 
--- the settings of `classify` with this geometry and this entry, with contexts where the words have the flag
-abbrev pub classify_as : List (List ℕ) → Geometry → Option ℕ → Settings
-classify_as words geometry entry = Classify geometry entry (has_option (codes "--contexts") words)
+-- a report of a cache of this geometry, with contexts where the arguments have the flag
+abbrev pub report_as : List (List ℕ) → Geometry → Ask
+report_as arguments geometry =
+    Report (record { geometry = geometry; contexts = has_option (options_of commands.Classify) (codes "--contexts") arguments })
 
-abbrev pub classify_settings : List (List ℕ) → Option Settings
-classify_settings words =
-    if is_plain classify_names words
-    then option_and_then (λ geometry. option_map (classify_as words geometry) (entry_in words)) (geometry_in words)
+-- the report that the arguments of `classify` ask for
+abbrev pub report_in : List (List ℕ) → Option Ask
+report_in arguments = option_map (report_as arguments) (geometry_in arguments)
+
+-- what the command asks for
+abbrev pub ask_in : Command → List (List ℕ) → Option Ask
+ask_in commands.Classify arguments = report_in arguments
+ask_in commands.Graph arguments = Some Graph
+
+-- the settings with this entry
+abbrev pub settings_with : Option ℕ → Ask → Settings
+settings_with entry ask = record { entry = entry; ask = ask }
+
+-- the settings of a command, where the arguments after it are options of it in plain form
+abbrev pub command_settings : Command → List (List ℕ) → Option Settings
+command_settings command arguments =
+    if is_plain (options_of command) arguments
+    then option_and_then (λ ask. option_map (λ entry. settings_with entry ask) (entry_in command arguments)) (ask_in command arguments)
     else None
 
--- the options of `graph`
-abbrev pub graph_names : List (List ℕ)
-graph_names = codes "--entry" ∷ []
+-- the command of a name
+abbrev pub command_of : List ℕ → Option Command
+command_of name =
+    if bytes_eq name (codes "classify")
+    then Some commands.Classify
+    else if bytes_eq name (codes "graph") then Some commands.Graph else None
 
-abbrev pub graph_settings : List (List ℕ) → Option Settings
-graph_settings words = if is_plain graph_names words then option_map Graph (entry_in words) else None
-
--- the settings that the words give
+-- the settings that the arguments give
 unfoldable pub settings_of : List (List ℕ) → Option Settings
 settings_of [] = None
-settings_of (command ∷ words) =
-    if bytes_eq command (codes "classify")
-    then classify_settings words
-    else if bytes_eq command (codes "graph") then graph_settings words else None
+settings_of (name ∷ arguments) = option_and_then (λ command. command_settings command arguments) (command_of name)

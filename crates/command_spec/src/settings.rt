@@ -1,17 +1,50 @@
+ghost use Rattle.std.specs.Prelude.{◌≡◌};
+ghost use Rattle.command_spec.specs.Plain.{takes_value};
+ghost use Rattle.command_spec.specs.Settings.{options_of};
+
 use cache_geom::Geometry;
 
-/// What the words of a command line ask for. An entry is the address in bytes at which the program is to begin; without
-/// it, that of the file's header.
+/// What the arguments of a command line ask for.
 #[derive(Clone, Copy, Debug, PartialEq, Eq)]
-pub enum Settings {
-    /// The report of a program in a cache of this shape: by address, or with a line for each configuration.
-    Classify {
-        geometry: Geometry,
-        entry: Option<u32>,
-        contexts: bool,
-    },
-    /// The text of a program's graph.
-    Graph {
-        entry: Option<u32>,
-    },
+pub struct Settings {
+    /// The address in bytes at which the program is to begin; without it, that of the file's header.
+    pub entry: Option<u32>,
+    pub ask: Ask,
+}
+
+/// Which text is asked for.
+#[derive(Clone, Copy, Debug, PartialEq, Eq)]
+pub enum Ask {
+    /// The report of the program.
+    Report(ReportAsk),
+    /// The text of the program's graph.
+    Graph,
+}
+
+/// Which report is asked for: of a cache of this shape, by address, or with a line for each configuration.
+#[derive(Clone, Copy, Debug, PartialEq, Eq)]
+pub struct ReportAsk {
+    pub geometry: Geometry,
+    pub contexts: bool,
+}
+
+/// The commands that have options.
+#[derive(Clone, Copy, Debug, PartialEq, Eq)]
+pub enum Command {
+    Classify,
+    Graph,
+}
+
+impl Command {
+    /// Whether a value stands after this option of the command. `None` where the command has no such option.
+    pub fn takes_value(self, option: &str) -> Option<bool>
+        ensures { result ≡ takes_value (options_of self) option.now }
+    {
+        match (self, option) {
+            (_, "--entry") => Some(true),
+            (Command::Classify, "--line" | "--sets" | "--ways") => Some(true),
+            (Command::Classify, "--contexts") => Some(false),
+            _ => None,
+        }
+    }
 }

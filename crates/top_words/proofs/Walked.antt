@@ -1,10 +1,10 @@
--- What a walk along the words of a command line knows at each option.
+-- What a walk along the arguments knows at each option.
 use Rattle.std.proofs.Common.{◌≡◌, ◌≤◌, ◌-◌, ◌&&◌, ℕ, Bool, true, false, not, List, [], ◌∷◌, length, take, drop, get_or, Some, None, String, bytes_eq, string_bytes, if◌then◌else◌, refl, ap, sym, ◌∙◌, arith}
 use Rattle.std.specs.declared.alloc.Global.{Global}
 use Rattle.std.proofs.Math.Seq.{take-length}
-use Rattle.command_spec.specs.Plain.{value_of, is_flag, is_new, is_plain}
+use Rattle.command_spec.specs.Plain.{OptionKind, value_of, is_flag, is_new, is_plain}
 use Rattle.top_words.specs.Views.{bytes_of}
-use Rattle.top_words.specs.Walk.{behind}
+use Rattle.top_words.specs.Walk.{after_option}
 
 -- the words behind the first, as a slice pattern binds them
 abbrev pub later_of : List (String Global) → List (String Global)
@@ -20,16 +20,16 @@ first-and-later (word ∷ words) first some at =
     rw (count, take-length, same) refl
 
 -- what a walk knows of the first option of the words that are left, and of the words behind it
-pub record IsOption (words : List (String Global)) (first : String Global) (text : List ℕ) (rest : List (String Global)) : Type 0 where
+pub record IsOption (kinds : List OptionKind) (words : List (String Global)) (first : String Global) (text : List ℕ) (rest : List (String Global)) : Type 0 where
   pub some : 1 ≤ length words
   pub first_is : first ≡ get_or words 0 first
   pub text_is : text ≡ string_bytes first
-  pub rest_is : behind text (later_of words) ≡ Some rest
+  pub rest_is : after_option kinds text (later_of words) ≡ Some rest
 
 -- the words at an option, as bytes
-bytes-option : (words : List (String Global)) (first : String Global) (text : List ℕ) (rest : List (String Global))
-    → IsOption words first text rest → bytes_of words ≡ text ∷ bytes_of (later_of words)
-bytes-option words first text rest at =
+bytes-option : (kinds : List OptionKind) (words : List (String Global)) (first : String Global) (text : List ℕ) (rest : List (String Global))
+    → IsOption kinds words first text rest → bytes_of words ≡ text ∷ bytes_of (later_of words)
+bytes-option kinds words first text rest at =
     ap bytes_of (first-and-later words first at.some at.first_is)
     ∙ ap (λ bytes. bytes ∷ bytes_of (later_of words)) (sym at.text_is)
 
@@ -51,23 +51,23 @@ and-true true = refl
 and-true false = refl
 
 -- words are in plain form if their first is a new option and those behind it are
-plain-option : (names : List (List ℕ)) (first : List ℕ) (later rest : List (String Global)) → behind first later ≡ Some rest
-    → is_plain names (first ∷ bytes_of later) ≡ (is_new names first (bytes_of rest) && is_plain names (bytes_of rest))
-plain-option names first [] rest is =
-    let last = behind-last (is_flag first) rest is in
-    ap (λ flag. flag && is_new names first []) last.0
-    ∙ sym (and-true (is_new names first []))
-    ∙ ap (λ left. is_new names first (bytes_of left) && is_plain names (bytes_of left)) last.1
-plain-option names first (next ∷ words) rest is =
-    behind-next (is_flag first) (λ left. is_new names first (bytes_of left) && is_plain names (bytes_of left)) next words rest is
+plain-option : (kinds : List OptionKind) (first : List ℕ) (later rest : List (String Global)) → after_option kinds first later ≡ Some rest
+    → is_plain kinds (first ∷ bytes_of later) ≡ (is_new kinds first (bytes_of rest) && is_plain kinds (bytes_of rest))
+plain-option kinds first [] rest is =
+    let last = behind-last (is_flag kinds first) rest is in
+    ap (λ flag. flag && is_new kinds first []) last.0
+    ∙ sym (and-true (is_new kinds first []))
+    ∙ ap (λ left. is_new kinds first (bytes_of left) && is_plain kinds (bytes_of left)) last.1
+plain-option kinds first (next ∷ words) rest is =
+    behind-next (is_flag kinds first) (λ left. is_new kinds first (bytes_of left) && is_plain kinds (bytes_of left)) next words rest is
 
 -- the same of the words that are left of a walk
-pub is_plain-option : (names : List (List ℕ)) (words : List (String Global)) (first : String Global) (text : List ℕ)
+pub is_plain-option : (kinds : List OptionKind) (words : List (String Global)) (first : String Global) (text : List ℕ)
     (rest : List (String Global))
-    → IsOption words first text rest
-    → is_plain names (bytes_of words) ≡ (is_new names text (bytes_of rest) && is_plain names (bytes_of rest))
-is_plain-option names words first text rest at =
-    ap (is_plain names) (bytes-option words first text rest at) ∙ plain-option names text (later_of words) rest at.rest_is
+    → IsOption kinds words first text rest
+    → is_plain kinds (bytes_of words) ≡ (is_new kinds text (bytes_of rest) && is_plain kinds (bytes_of rest))
+is_plain-option kinds words first text rest at =
+    ap (is_plain kinds) (bytes-option kinds words first text rest at) ∙ plain-option kinds text (later_of words) rest at.rest_is
 
 -- a flag has no value, and another name's isn't this one's
 skipped : {X : Type 0} (flag named : Bool) (skip found later : X) → (named && not flag) ≡ false
@@ -77,18 +77,38 @@ skipped false true skip found later other = absurd (cc)
 skipped false false skip found later other = refl
 
 -- the value behind a name is behind the first option where that isn't it
-value-option : (name first : List ℕ) (later rest : List (String Global)) → behind first later ≡ Some rest
-    → (bytes_eq first name && not (is_flag first)) ≡ false → value_of name (first ∷ bytes_of later) ≡ value_of name (bytes_of rest)
-value-option name first [] rest is other = ap (λ left. value_of name (bytes_of left)) (behind-last (is_flag first) rest is).1
-value-option name first (next ∷ words) rest is other =
-    skipped (is_flag first) (bytes_eq first name) (value_of name (bytes_of (next ∷ words))) (Some (string_bytes next))
-    (value_of name (bytes_of words)) other
-    ∙ behind-next (is_flag first) (λ left. value_of name (bytes_of left)) next words rest is
+value-option : (kinds : List OptionKind) (name first : List ℕ) (later rest : List (String Global)) → after_option kinds first later ≡ Some rest
+    → (bytes_eq first name && not (is_flag kinds first)) ≡ false → value_of kinds name (first ∷ bytes_of later) ≡ value_of kinds name (bytes_of rest)
+value-option kinds name first [] rest is other = ap (λ left. value_of kinds name (bytes_of left)) (behind-last (is_flag kinds first) rest is).1
+value-option kinds name first (next ∷ words) rest is other =
+    skipped (is_flag kinds first) (bytes_eq first name) (value_of kinds name (bytes_of (next ∷ words))) (Some (string_bytes next))
+    (value_of kinds name (bytes_of words)) other
+    ∙ behind-next (is_flag kinds first) (λ left. value_of kinds name (bytes_of left)) next words rest is
 
 -- the same of the words that are left of a walk
-pub value_of-option : (name : List ℕ) (words : List (String Global)) (first : String Global) (text : List ℕ)
+pub value_of-option : (kinds : List OptionKind) (name : List ℕ) (words : List (String Global)) (first : String Global) (text : List ℕ)
     (rest : List (String Global))
-    → IsOption words first text rest → (bytes_eq text name && not (is_flag text)) ≡ false
-    → value_of name (bytes_of words) ≡ value_of name (bytes_of rest)
-value_of-option name words first text rest at other =
-    ap (value_of name) (bytes-option words first text rest at) ∙ value-option name text (later_of words) rest at.rest_is other
+    → IsOption kinds words first text rest → (bytes_eq text name && not (is_flag kinds text)) ≡ false
+    → value_of kinds name (bytes_of words) ≡ value_of kinds name (bytes_of rest)
+value_of-option kinds name words first text rest at other =
+    ap (value_of kinds name) (bytes-option kinds words first text rest at) ∙ value-option kinds name text (later_of words) rest at.rest_is other
+
+-- a walk goes on where there is something to go on with
+goes-on : (flag : Bool) (left right : List (String Global)) → (if flag then Some left else Some right) ≡ None → ⊥
+goes-on true left right ends = cc ends
+goes-on false left right ends = cc ends
+
+-- an option whose value is missing has none
+value-ended : (kinds : List OptionKind) (name first : List ℕ) (later : List (String Global)) → after_option kinds first later ≡ None
+    → value_of kinds name (first ∷ bytes_of later) ≡ None
+value-ended kinds name first [] ends = refl
+value-ended kinds name first (next ∷ words) ends = absurd (goes-on (is_flag kinds first) (next ∷ words) words ends)
+
+-- the same of the arguments that are left of a walk
+pub value_of-ended : (kinds : List OptionKind) (name : List ℕ) (words : List (String Global)) (first : String Global) (text : List ℕ)
+    → 1 ≤ length words → first ≡ get_or words 0 first → text ≡ string_bytes first → after_option kinds text (later_of words) ≡ None
+    → value_of kinds name (bytes_of words) ≡ None
+value_of-ended kinds name words first text some at is ends =
+    ap (λ (ws : List (String Global)). value_of kinds name (bytes_of ws)) (first-and-later words first some at)
+    ∙ ap (λ bytes. value_of kinds name (bytes ∷ bytes_of (later_of words))) (sym is)
+    ∙ value-ended kinds name text (later_of words) ends

@@ -1,5 +1,4 @@
 pub mod Views
-pub mod Names
 pub mod Walk
 pub mod Status
 pub mod FaultText

@@ -1,13 +1,13 @@
--- How a walk along the words of a command line goes from option to option.
+-- How a walk along the arguments goes from option to option.
 use Rattle.std.specs.Prelude.{ℕ, List, [], ◌∷◌, Option, Some, None, String, if◌then◌else◌}
 use Rattle.std.specs.declared.alloc.Global.{Global}
-use Rattle.command_spec.specs.Plain.{is_flag}
+use Rattle.command_spec.specs.Plain.{OptionKind, is_flag}
 
--- the words behind a value
-abbrev pub behind_value : List (String Global) → Option (List (String Global))
-behind_value [] = None
-behind_value (value ∷ rest) = Some rest
+-- the arguments after a value
+abbrev pub after_value : List (String Global) → Option (List (String Global))
+after_value [] = None
+after_value (value ∷ rest) = Some rest
 
--- the words behind a first word and its value, or behind a flag alone
-abbrev pub behind : List ℕ → List (String Global) → Option (List (String Global))
-behind first later = if is_flag first then Some later else behind_value later
+-- the arguments after a name and its value, or after a flag alone
+abbrev pub after_option : List OptionKind → List ℕ → List (String Global) → Option (List (String Global))
+after_option kinds first later = if is_flag kinds first then Some later else after_value later

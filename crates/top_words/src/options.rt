@@ -1,28 +1,23 @@
-ghost use Rattle.std.specs.Prelude.{◌≡◌, ◌≤◌, None, Some, length, bytes_eq, option_copied, MatchOption};
-ghost use Rattle.std.specs.List.{list_any};
+// The options of a command among its arguments: one walk from option to option serves all questions.
+ghost use Rattle.std.specs.Prelude.{◌≡◌, ◌≤◌, None, Some, length, option_copied, MatchOption};
 ghost use Rattle.command_spec.specs.Plain.{value_of, has_option, is_flag, is_new, is_plain};
-ghost use Rattle.top_words.specs.Names.{names_of};
-ghost use Rattle.top_words.specs.Walk.{behind};
+ghost use Rattle.command_spec.specs.Settings.{options_of};
+ghost use Rattle.top_words.specs.Walk.{after_option};
 ghost use Rattle.top_words.specs.Views.{bytes_of};
 
-/// The commands that have options.
-#[derive(Clone, Copy)]
-pub(crate) enum Command {
-    Classify,
-    Graph,
-}
+use command_spec::Command;
 
-/// Whether the words after a command are in plain form: names with their values and flags, none of them twice.
-pub(crate) fn is_plain(command: Command, words: &[String]) -> bool
-    ensures { result ≡ is_plain (names_of command) (bytes_of words.now) }
+/// Whether the arguments after a command are in plain form: names with their values and flags, none of them twice.
+pub(crate) fn is_plain(command: Command, arguments: &[String]) -> bool
+    ensures { result ≡ is_plain (options_of command) (bytes_of arguments.now) }
 {
-    let mut left = words;
+    let mut left = arguments;
     while let [first, later @ ..] = left {
-        let word = first.as_str();
-        let Some(rest) = behind(word, later) else {
+        let name = first.as_str();
+        let Some(rest) = after_option(command, name, later) else {
             return false;
         };
-        if !is_new(command, word, rest) {
+        if !is_new(command, name, rest) {
             return false;
         }
         left = rest;
@@ -30,58 +25,43 @@ pub(crate) fn is_plain(command: Command, words: &[String]) -> bool
     true
 }
 
-/// The words behind a first word and its value, or behind a flag alone. None where the value is missing.
-fn behind<'a>(first: &str, later: &'a [String]) -> Option<&'a [String]>
-    ensures rest { MatchOption result (behind first.now later.now ≡ None)
-        (λ rest. behind first.now later.now ≡ Some rest.now) }
+/// The arguments after a name and its value, or after a flag alone. `None` where the value is missing.
+fn after_option<'a>(command: Command, first: &str, later: &'a [String]) -> Option<&'a [String]>
+    ensures rest { MatchOption result (after_option (options_of command) first.now later.now ≡ None)
+        (λ rest. after_option (options_of command) first.now later.now ≡ Some rest.now) }
     ensures shorter { MatchOption result (Unit {0}) (λ rest. length rest.now ≤ length later.now) }
 {
-    if is_flag(first) {
+    if is_flag(command, first) {
         return Some(later);
     }
     let (_, rest) = later.split_first()?;
     Some(rest)
 }
 
-fn is_flag(word: &str) -> bool
-    ensures { result ≡ is_flag word.now }
+fn is_flag(command: Command, name: &str) -> bool
+    ensures { result ≡ is_flag (options_of command) name.now }
 {
-    word == "--contexts"
+    command.takes_value(name) == Some(false)
 }
 
-/// Whether a word is an option of the command that doesn't come again later.
-fn is_new(command: Command, word: &str, later: &[String]) -> bool
-    ensures { result ≡ is_new (names_of command) word.now (bytes_of later.now) }
+/// Whether a name is an option of the command that doesn't come again later.
+fn is_new(command: Command, name: &str, later: &[String]) -> bool
+    ensures { result ≡ is_new (options_of command) name.now (bytes_of later.now) }
 {
-    is_name(command, word) && !has_option(later, word)
+    command.takes_value(name).is_some() && !has_option(command, later, name)
 }
 
-fn is_name(command: Command, word: &str) -> bool
-    ensures { result ≡ list_any (bytes_eq word.now) (names_of command) }
+/// Whether the option stands among the arguments, as a flag or as a name with its value.
+pub(crate) fn has_option(command: Command, arguments: &[String], name: &str) -> bool
+    ensures { result ≡ has_option (options_of command) name.now (bytes_of arguments.now) }
 {
-    match command {
-        Command::Classify => {
-            word == "--line"
-                || word == "--sets"
-                || word == "--ways"
-                || word == "--entry"
-                || is_flag(word)
-        }
-        Command::Graph => word == "--entry",
-    }
-}
-
-/// Whether the option stands among the words, as a flag or as a name with its value.
-pub(crate) fn has_option(words: &[String], name: &str) -> bool
-    ensures { result ≡ has_option name.now (bytes_of words.now) }
-{
-    let mut left = words;
+    let mut left = arguments;
     while let [first, later @ ..] = left {
-        let word = first.as_str();
-        if word == name {
+        let found = first.as_str();
+        if found == name {
             return true;
         }
-        let Some(rest) = behind(word, later) else {
+        let Some(rest) = after_option(command, found, later) else {
             return false;
         };
         left = rest;
@@ -89,17 +69,17 @@ pub(crate) fn has_option(words: &[String], name: &str) -> bool
     false
 }
 
-/// The value behind a name.
-pub(crate) fn value_of<'a>(words: &'a [String], name: &str) -> Option<&'a str>
-    ensures { option_copied result ≡ value_of name.now (bytes_of words.now) }
+/// The value after a name.
+pub(crate) fn value_of<'a>(command: Command, arguments: &'a [String], name: &str) -> Option<&'a str>
+    ensures { option_copied result ≡ value_of (options_of command) name.now (bytes_of arguments.now) }
 {
-    let mut left = words;
+    let mut left = arguments;
     while let [first, later @ ..] = left {
-        let word = first.as_str();
-        if word == name && !is_flag(word) {
+        let found = first.as_str();
+        if found == name && !is_flag(command, found) {
             return Some(later.first()?.as_str());
         }
-        left = behind(word, later)?;
+        left = after_option(command, found, later)?;
     }
     None
 }

@@ -1,76 +1,86 @@
+// The settings that the arguments of a command line give.
 ghost use Rattle.std.specs.Prelude.{◌≡◌};
-ghost use Rattle.command_spec.specs.Settings.{settings_of, classify_settings, graph_settings, geometry_in, geometry_of, number_at, entry_in};
+ghost use Rattle.command_spec.specs.Settings.{ask_in, command_of, command_settings, entry_in, geometry_in, geometry_of, number_at, report_in, settings_of};
 ghost use Rattle.top_words.specs.Views.{bytes_of};
 
 use crate::number::{address_of, number_of};
-use crate::options::{Command, has_option, is_plain, value_of};
+use crate::options::{has_option, is_plain, value_of};
 use cache_geom::Geometry;
-use command_spec::Settings;
+use command_spec::{Ask, Command, ReportAsk, Settings};
 
-/// The settings that the words give. None where they aren't in plain form, name no command that is built, or have a
-/// value out of its range. The words lack the program's name.
+/// The settings that the arguments give. `None` where they aren't in plain form, name no command that is built, or have a
+/// value out of its range. The arguments lack the program's name.
 #[tactic(auto, unfolding(command_spec::specs::Settings::settings_of))]
 pub fn read_words(words: &[String]) -> Option<Settings>
     ensures { result ≡ settings_of (bytes_of words.now) }
 {
-    let (command, options) = words.split_first()?;
-    match command.as_str() {
-        "classify" => classify_settings(options),
-        "graph" => graph_settings(options),
+    let (name, arguments) = words.split_first()?;
+    command_settings(command_of(name)?, arguments)
+}
+
+fn command_of(name: &str) -> Option<Command>
+    ensures { result ≡ command_of name.now }
+{
+    match name {
+        "classify" => Some(Command::Classify),
+        "graph" => Some(Command::Graph),
         _ => None,
     }
 }
 
-fn classify_settings(words: &[String]) -> Option<Settings>
-    ensures { result ≡ classify_settings (bytes_of words.now) }
+fn command_settings(command: Command, arguments: &[String]) -> Option<Settings>
+    ensures { result ≡ command_settings command (bytes_of arguments.now) }
 {
-    if !is_plain(Command::Classify, words) {
+    if !is_plain(command, arguments) {
         return None;
     }
-    let geometry = geometry_in(words)?;
-    let entry = entry_in(words)?;
-    let contexts = has_option(words, "--contexts");
-    Some(Settings::Classify {
-        geometry,
-        entry,
-        contexts,
-    })
+    let ask = ask_in(command, arguments)?;
+    let entry = entry_in(command, arguments)?;
+    Some(Settings { entry, ask })
 }
 
-fn graph_settings(words: &[String]) -> Option<Settings>
-    ensures { result ≡ graph_settings (bytes_of words.now) }
+/// What the command asks for.
+fn ask_in(command: Command, arguments: &[String]) -> Option<Ask>
+    ensures { result ≡ ask_in command (bytes_of arguments.now) }
 {
-    if !is_plain(Command::Graph, words) {
-        return None;
+    match command {
+        Command::Classify => report_in(arguments),
+        Command::Graph => Some(Ask::Graph),
     }
-    let entry = entry_in(words)?;
-    Some(Settings::Graph { entry })
 }
 
-/// The entry that the words give, if they give one. None where its text spells no address.
-fn entry_in(words: &[String]) -> Option<Option<u32>>
-    ensures { result ≡ entry_in (bytes_of words.now) }
+fn report_in(arguments: &[String]) -> Option<Ask>
+    ensures { result ≡ report_in (bytes_of arguments.now) }
 {
-    match value_of(words, "--entry") {
+    let geometry = geometry_in(arguments)?;
+    let contexts = has_option(Command::Classify, arguments, "--contexts");
+    Some(Ask::Report(ReportAsk { geometry, contexts }))
+}
+
+/// The entry that the arguments give, if they give one. `None` where its text spells no address.
+fn entry_in(command: Command, arguments: &[String]) -> Option<Option<u32>>
+    ensures { result ≡ entry_in command (bytes_of arguments.now) }
+{
+    match value_of(command, arguments, "--entry") {
         None => Some(None),
         Some(text) => Some(Some(address_of(text)?)),
     }
 }
 
-fn geometry_in(words: &[String]) -> Option<Geometry>
-    ensures { result ≡ geometry_in (bytes_of words.now) }
+fn geometry_in(arguments: &[String]) -> Option<Geometry>
+    ensures { result ≡ geometry_in (bytes_of arguments.now) }
 {
-    let line = number_at(words, "--line", 32)?;
-    let sets = number_at(words, "--sets", 64)?;
-    let ways = number_at(words, "--ways", 4)?;
+    let line = number_at(arguments, "--line", 32)?;
+    let sets = number_at(arguments, "--sets", 64)?;
+    let ways = number_at(arguments, "--ways", 4)?;
     geometry_of(line, sets, ways)
 }
 
-/// The number behind a name, or the default where the name isn't there.
-fn number_at(words: &[String], name: &str, default: u64) -> Option<u64>
-    ensures { result ≡ number_at name.now default (bytes_of words.now) }
+/// The number after a name of `classify`, or the default where the name isn't there.
+fn number_at(arguments: &[String], name: &str, default: u64) -> Option<u64>
+    ensures { result ≡ number_at name.now default (bytes_of arguments.now) }
 {
-    match value_of(words, name) {
+    match value_of(Command::Classify, arguments, name) {
         None => Some(default),
         Some(text) => number_of(text),
     }

@@ -1,11 +1,12 @@
 use Rattle.std.proofs.Common.{◌≡◌, length}
+use Rattle.command_spec.specs.Settings.{options_of}
 use Rattle.command_spec.specs.Plain.{has_option}
 use Rattle.top_words.specs.Views.{bytes_of}
 use Rattle.top_words.proofs.options.has_option.Given as goal
 
 -- the words passed over don't have the option
 abbrev pub invariant-loop-left : goal.invariant-loop-left
-invariant-loop-left l = has_option l.name (bytes_of l.words) ≡ has_option l.name (bytes_of l.left)
+invariant-loop-left l = has_option (options_of l.command) l.name (bytes_of l.arguments) ≡ has_option (options_of l.command) l.name (bytes_of l.left)
 
 abbrev pub decreases-loop-left : goal.decreases-loop-left
 decreases-loop-left l = length l.left
