@@ -17,7 +17,7 @@ use Rattle.transition_spec.specs.Layer.{all_of}
 use Rattle.flow_spec.specs.Successors.{successors}
 use Rattle.call_expand.specs.Expansion.{Expansion, IsNodeOf, IsGraphOf, numbered}
 use Rattle.icache_top.specs.Answer.{IsAcceptedWith, IsTextFrom}
-use Rattle.command_spec.specs.declared.settings.Settings.TheVariants.{Graph}
+use Rattle.command_spec.specs.declared.settings.Ask.TheVariants.{Graph}
 use Rattle.icache_top.specs.GraphLines.{graph_line, graph_lines_from, graph_lines_of, graph_text_of}
 
 -- what a list has at a place is there
@@ -95,11 +95,11 @@ graph_lines step entry configurations nodes of =
     (subst P long (λ node (k, below, is). fit_at nodes (length nodes) k node of.graph.fit (slice_get_is nodes k node below is)))
 
 -- the text of an accepted program's graph
-pub graph_text : (image : Image) (entry : ℕ) (words_entry : Option ℕ) (expanded : Expansion)
+pub graph_text : (image : Image) (entry : ℕ) (expanded : Expansion)
     → ((layers : List (List Configuration)) × IsAccepted (successors image entry) image entry layers × (expanded.configurations ≡ all_of layers))
     → IsGraphOf (successors image entry) entry expanded.configurations expanded.nodes
-    → IsAcceptedWith image entry (λ layers. IsTextFrom (Graph words_entry) image entry layers (graph_text_of expanded))
-graph_text image entry words_entry expanded (layers, accepted, all) of =
+    → IsAcceptedWith image entry (λ layers. IsTextFrom Graph image entry layers (graph_text_of expanded))
+graph_text image entry expanded (layers, accepted, all) of =
     let step = successors image entry in
     let lines = graph_lines_of expanded in
     let P : List Configuration → Type 0 = λ configurations. AreGraphLines step configurations 0 configurations lines in (

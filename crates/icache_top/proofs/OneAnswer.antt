@@ -9,7 +9,8 @@ use Rattle.flow_spec.specs.Configuration.{Configuration}
 use Rattle.flow_spec.specs.Successors.{successors}
 use Rattle.focus_spec.specs.Blocks.{HaveMany}
 use Rattle.command_spec.specs.declared.settings.Settings.{Settings}
-use Rattle.command_spec.specs.declared.settings.Settings.TheVariants.{Classify, Graph}
+use Rattle.command_spec.specs.declared.settings.Ask.{Ask}
+use Rattle.command_spec.specs.declared.settings.Ask.TheVariants.{Report, Graph}
 use Rattle.command_spec.specs.Settings.{settings_of}
 use Rattle.top_words.specs.declared.status.Status.{Status}
 use Rattle.top_words.specs.declared.status.Status.TheVariants.{Done, Usage, OutOfMemory, ReadFault, WriteFault, FileTooBig, Elf, Flow, TooManyBlocks}
@@ -28,40 +29,40 @@ read_and_not : (file : List ℕ) (image : Image) (fault : ElfFault) → image_of
 read_and_not file image fault is fails = absurd (cc (is, fails))
 
 -- two texts that are wanted of a program are the same but for their ways
-text_from : (settings : Settings) (image : Image) (entry : ℕ) (text other : List ℕ)
-    → IsAcceptedWith image entry (λ layers. IsTextFrom settings image entry layers text)
-    → IsAcceptedWith image entry (λ layers. IsTextFrom settings image entry layers other) → AreSameFor settings text other
-text_from (Classify g words_entry contexts) image entry text other (layers, accepted, are) (layers', accepted', are') =
-    one_report image entry g contexts text other are.1 are'.1
-text_from (Graph words_entry) image entry text other (layers, accepted, is) (layers', accepted', is') =
+text_from : (ask : Ask) (image : Image) (entry : ℕ) (text other : List ℕ)
+    → IsAcceptedWith image entry (λ layers. IsTextFrom ask image entry layers text)
+    → IsAcceptedWith image entry (λ layers. IsTextFrom ask image entry layers other) → AreSameFor ask text other
+text_from (Report ask) image entry text other (layers, accepted, are) (layers', accepted', are') =
+    one_report image entry ask.geometry ask.contexts text other are.1 are'.1
+text_from Graph image entry text other (layers, accepted, is) (layers', accepted', is') =
     one_graph_text image entry text other is is'
 
 pub one_text : (settings : Settings) (file text other : List ℕ) → IsAnswerOf settings file text → IsAnswerOf settings file other
-    → AreSameFor settings text other
+    → AreSameFor settings.ask text other
 one_text settings file text other answer answer' =
     let same : answer'.image ≡ answer.image = one_image file answer'.image answer.image answer'.is_image answer.is_image in
-    let Wanted : Image → Type 0 = λ image. IsAcceptedWith image (entry_of settings image) (λ layers. IsTextFrom settings image (entry_of settings image) layers other) in
-    text_from settings answer.image (entry_of settings answer.image) text other answer.text_is (subst Wanted same answer'.text_is)
+    let Wanted : Image → Type 0 = λ image. IsAcceptedWith image (entry_of settings image) (λ layers. IsTextFrom settings.ask image (entry_of settings image) layers other) in
+    text_from settings.ask answer.image (entry_of settings answer.image) text other answer.text_is (subst Wanted same answer'.text_is)
 
 -- the settings ask for a text of the program, or have too many blocks, and not both
-text_or_many : (settings : Settings) (image : Image) (entry : ℕ) (text : List ℕ) (set count : ℕ)
-    → IsAcceptedWith image entry (λ layers. IsTextFrom settings image entry layers text)
-    → IsAcceptedWith image entry (λ layers. IsTooMuchFor settings layers set count) → ⊥
-text_or_many (Classify g words_entry contexts) image entry text set count (layers, accepted, are) (layers', accepted', many) =
+text_or_many : (ask : Ask) (image : Image) (entry : ℕ) (text : List ℕ) (set count : ℕ)
+    → IsAcceptedWith image entry (λ layers. IsTextFrom ask image entry layers text)
+    → IsAcceptedWith image entry (λ layers. IsTooMuchFor ask layers set count) → ⊥
+text_or_many (Report ask) image entry text set count (layers, accepted, are) (layers', accepted', many) =
     let same : addresses_of layers' ≡ addresses_of layers =
     ap (λ cs. map (λ (c : Configuration). c.at) cs) (one_numbering (successors image entry) entry image layers' layers accepted' accepted) in
-    few_in_all_many (addresses_of layers) g set count are.0 (subst (λ addresses. HaveMany addresses g set count) same many)
-text_or_many (Graph words_entry) image entry text set count (layers, accepted, is) (layers', accepted', many) = many
+    few_in_all_many (addresses_of layers) ask.geometry set count are.0 (subst (λ addresses. HaveMany addresses ask.geometry set count) same many)
+text_or_many Graph image entry text set count (layers, accepted, is) (layers', accepted', many) = many
 
 -- one set is the first with too many blocks
-one_set : (settings : Settings) (image : Image) (entry set count other number : ℕ)
-    → IsAcceptedWith image entry (λ layers. IsTooMuchFor settings layers set count)
-    → IsAcceptedWith image entry (λ layers. IsTooMuchFor settings layers other number) → (set ≡ other) × (count ≡ number)
-one_set (Classify g words_entry contexts) image entry set count other number (layers, accepted, many) (layers', accepted', many') =
+one_set : (ask : Ask) (image : Image) (entry set count other number : ℕ)
+    → IsAcceptedWith image entry (λ layers. IsTooMuchFor ask layers set count)
+    → IsAcceptedWith image entry (λ layers. IsTooMuchFor ask layers other number) → (set ≡ other) × (count ≡ number)
+one_set (Report ask) image entry set count other number (layers, accepted, many) (layers', accepted', many') =
     let same : addresses_of layers' ≡ addresses_of layers =
     ap (λ cs. map (λ (c : Configuration). c.at) cs) (one_numbering (successors image entry) entry image layers' layers accepted' accepted) in
-    one_many (addresses_of layers) g set count other number many (subst (λ addresses. HaveMany addresses g other number) same many')
-one_set (Graph words_entry) image entry set count other number (layers, accepted, many) (layers', accepted', many') = absurd many
+    one_many (addresses_of layers) ask.geometry set count other number many (subst (λ addresses. HaveMany addresses ask.geometry other number) same many')
+one_set Graph image entry set count other number (layers, accepted, many) (layers', accepted', many') = absurd many
 
 -- why a file that is within the limit is answered with a status
 abbrev Cause : Settings → List ℕ → Status → Type 0
@@ -103,8 +104,8 @@ module _ (settings : Settings) (file : List ℕ) where
   answer_many : (text : List ℕ) (set count : ℕ) → IsAnswerOf settings file text → HasManyBlocks settings file set count → ⊥
   answer_many text set count answer many =
       let same : many.image ≡ answer.image = one_image file many.image answer.image many.is_image answer.is_image in
-      let TooMuch : Image → Type 0 = λ image. IsAcceptedWith image (entry_of settings image) (λ layers. IsTooMuchFor settings layers set count) in
-      text_or_many settings answer.image (entry_of settings answer.image) text set count answer.text_is (subst TooMuch same many.too_much)
+      let TooMuch : Image → Type 0 = λ image. IsAcceptedWith image (entry_of settings image) (λ layers. IsTooMuchFor settings.ask layers set count) in
+      text_or_many settings.ask answer.image (entry_of settings answer.image) text set count answer.text_is (subst TooMuch same many.too_much)
 
   -- a program that is refused has no blocks
   flow_many : (fault : FlowFault) (set count : ℕ) → HasFlowFault settings file fault → HasManyBlocks settings file set count → ⊥
@@ -128,8 +129,8 @@ module _ (settings : Settings) (file : List ℕ) where
       → (set ≡ other) × (count ≡ number)
   many_many set count other number many many' =
       let same : many'.image ≡ many.image = one_image file many'.image many.image many'.is_image many.is_image in
-      let TooMuch : Image → Type 0 = λ image. IsAcceptedWith image (entry_of settings image) (λ layers. IsTooMuchFor settings layers other number) in
-      one_set settings many.image (entry_of settings many.image) set count other number many.too_much (subst TooMuch same many'.too_much)
+      let TooMuch : Image → Type 0 = λ image. IsAcceptedWith image (entry_of settings image) (λ layers. IsTooMuchFor settings.ask layers other number) in
+      one_set settings.ask many.image (entry_of settings many.image) set count other number many.too_much (subst TooMuch same many'.too_much)
 
   -- two causes have one status
   one_cause : (status other : Status) → Cause settings file status → Cause settings file other → status ≡ other

@@ -15,7 +15,8 @@ use Rattle.path_model.specs.declared.graph.Node.{Node}
 use Rattle.report_spec.specs.declared.line.Verdict.{Verdict}
 use Rattle.report_spec.specs.Text.{text_of}
 use Rattle.call_expand.specs.Expansion.{Expansion, IsNodeOf, IsGraphOf}
-use Rattle.command_spec.specs.declared.settings.Settings.TheVariants.{Classify}
+use Rattle.command_spec.specs.declared.settings.Ask.TheVariants.{Report}
+use Rattle.command_spec.specs.declared.settings.ReportAsk.{ReportAsk}
 use Rattle.line_sender.specs.declared.SendStop.{SendStop}
 use Rattle.focus_spec.specs.Blocks.{HaveFewInAll, HaveMany}
 use Rattle.node_verdicts.specs.Verdicts.{AreRight, IsFault}
@@ -39,7 +40,7 @@ zipped_addresses step all (c ∷ configurations) (node ∷ nodes) zipped =
     ap (λ (at : ℕ). at ∷ node_addresses nodes) zipped.0.at
     ∙ ap (λ (rest : List ℕ). c.at ∷ rest) (zipped_addresses step all configurations nodes zipped.1)
 
-module _ (image : Image) (entry : ℕ) (g : Geometry) (words_entry : Option ℕ) (contexts : Bool) (expanded : Expansion)
+module _ (image : Image) (entry : ℕ) (ask : ReportAsk) (expanded : Expansion)
     (accepted : (layers : List (List Configuration)) × IsAccepted (successors image entry) image entry layers × (expanded.configurations ≡ all_of layers))
     (graph : IsGraphOf (successors image entry) entry expanded.configurations expanded.nodes) where
   -- the nodes fetch the addresses of the layers
@@ -49,36 +50,36 @@ module _ (image : Image) (entry : ℕ) (g : Geometry) (words_entry : Option ℕ)
       ∙ ap (λ (cs : List Configuration). map (λ (c : Configuration). c.at) cs) accepted.2
 
   -- a set has too many blocks
-  pub many : (fault : VerdictsFault) → IsFault expanded.nodes g fault
-      → IsManyFault (λ set count. IsAcceptedWith image entry (λ layers. IsTooMuchFor (Classify g words_entry contexts) layers set count)) fault
+  pub many : (fault : VerdictsFault) → IsFault expanded.nodes ask.geometry fault
+      → IsManyFault (λ set count. IsAcceptedWith image entry (λ layers. IsTooMuchFor (Report ask) layers set count)) fault
   many (faults.TooManyBlocks set count) is =
-      (accepted.0, accepted.1, subst (λ (addresses : List ℕ). HaveMany addresses g set count) addresses_same is)
+      (accepted.0, accepted.1, subst (λ (addresses : List ℕ). HaveMany addresses ask.geometry set count) addresses_same is)
   many faults.OutOfMemory is = tt
 
   -- right verdicts of all nodes are findings
   pub findings : (nodes : List Node) (verdicts : List Verdict) → nodes ≡ expanded.nodes → IsWithin image → length verdicts ≡ length nodes
-      → AreRight nodes g verdicts → AreFindings image entry g expanded.configurations expanded.nodes verdicts
+      → AreRight nodes ask.geometry verdicts → AreFindings image entry ask.geometry expanded.configurations expanded.nodes verdicts
   findings nodes verdicts same within one_each right = record {
     within = within;
     accepted = accepted;
     graph = graph;
     one_each = one_each ∙ ap (λ (ns : List Node). length ns) same;
-    right = subst (λ (ns : List Node). AreRight ns g verdicts) same right;
+    right = subst (λ (ns : List Node). AreRight ns ask.geometry verdicts) same right;
   }
 
-  module _ (verdicts : List Verdict) (found : AreFindings image entry g expanded.configurations expanded.nodes verdicts)
-      (few : HaveFewInAll (node_addresses expanded.nodes) g) where
+  module _ (verdicts : List Verdict) (found : AreFindings image entry ask.geometry expanded.configurations expanded.nodes verdicts)
+      (few : HaveFewInAll (node_addresses expanded.nodes) ask.geometry) where
     -- all lines are the text that is wanted
-    wanted : (Sent : List ℕ → Type 0) → SendsAll contexts image expanded verdicts Sent
-        → (text : List ℕ) × IsAcceptedWith image entry (λ layers. IsTextFrom (Classify g words_entry contexts) image entry layers text) × Sent text
+    wanted : (Sent : List ℕ → Type 0) → SendsAll ask.contexts image expanded verdicts Sent
+        → (text : List ℕ) × IsAcceptedWith image entry (λ layers. IsTextFrom (Report ask) image entry layers text) × Sent text
     wanted Sent (lines, all, sent) = (
       text_of lines,
       (
         accepted.0,
         accepted.1,
         (
-          subst (λ (addresses : List ℕ). HaveFewInAll addresses g) addresses_same few,
-          report image entry g expanded.configurations expanded.nodes verdicts found contexts lines all,
+          subst (λ (addresses : List ℕ). HaveFewInAll addresses ask.geometry) addresses_same few,
+          report image entry ask.geometry expanded.configurations expanded.nodes verdicts found ask.contexts lines all,
         ),
       ),
       sent,
@@ -86,9 +87,9 @@ module _ (image : Image) (entry : ℕ) (g : Geometry) (words_entry : Option ℕ)
 
     -- what a sending of the report says
     pub report_told : (Refused : FlowFault → Type 0) (HasMany : ℕ → ℕ → Type 0) (old new : Option (List ℕ)) (sending : Result (Unit {0}) SendStop)
-        → (r : Result (Unit {0}) Status) → r ≡ sent_as sending → OnOk sending (SendsAll contexts image expanded verdicts (Appends old new))
-        → OnErr sending (SendsAll contexts image expanded verdicts (SendsPrefix old new))
-        → ToldOf Refused HasMany (λ text. IsAcceptedWith image entry (λ layers. IsTextFrom (Classify g words_entry contexts) image entry layers text))
+        → (r : Result (Unit {0}) Status) → r ≡ sent_as sending → OnOk sending (SendsAll ask.contexts image expanded verdicts (Appends old new))
+        → OnErr sending (SendsAll ask.contexts image expanded verdicts (SendsPrefix old new))
+        → ToldOf Refused HasMany (λ text. IsAcceptedWith image entry (λ layers. IsTextFrom (Report ask) image entry layers text))
         (status_of r) old new
     report_told Refused HasMany old new (Ok done) r is whole part =
         let (text, is_wanted, sent) = wanted (Appends old new) whole in

@@ -19,7 +19,7 @@ use Rattle.line_sender.specs.declared.SendStop.TheVariants as stops
 use Rattle.top_words.specs.declared.status.Status.{Status}
 use Rattle.top_words.specs.declared.status.Status.TheVariants.{Done, Usage, OutOfMemory, ReadFault, WriteFault, FileTooBig, Elf, Flow, TooManyBlocks}
 use Rattle.top_words.specs.Status.{of_elf, of_flow}
-use Rattle.icache_top.specs.Answer.{ToldOf, Tells, IsAcceptedWith, IsTextFrom, IsTooMuchFor, entry_of, sent_as, settled_as, status_of}
+use Rattle.icache_top.specs.Answer.{ToldOf, Tells, SaysOfProgram, entry_of, sent_as, settled_as, status_of}
 
 -- a wanted text was sent
 pub sent_told : (Refused : FlowFault → Type 0) (HasMany : ℕ → ℕ → Type 0) (IsWanted : List ℕ → Type 0) (old new : Option (List ℕ)) (text : List ℕ)
@@ -116,14 +116,8 @@ pub handed_on : (Refused : FlowFault → Type 0) (HasMany : ℕ → ℕ → Type
 handed_on Refused HasMany IsWanted s status r gives told =
     subst (λ (own : Status). ToldOf Refused HasMany IsWanted own s s) (sym (status_is r status gives)) told
 
--- what is said of a program that begins at an entry
-abbrev pub ToldAt : Settings → Image → ℕ → Status → Option (List ℕ) → Option (List ℕ) → Type 0
-ToldAt settings image entry = ToldOf (IsRefused (successors image entry) image entry)
-    (λ set count. IsAcceptedWith image entry (λ layers. IsTooMuchFor settings layers set count))
-    (λ text. IsAcceptedWith image entry (λ layers. IsTextFrom settings image entry layers text))
-
 at_entry : (settings : Settings) (file : List ℕ) (image : Image) (status : Status) (old new : Option (List ℕ)) → image_of file ≡ Ok image
-    → ToldAt settings image (entry_of settings image) status old new → Tells settings file status old new
+    → SaysOfProgram settings.ask image (entry_of settings image) status old new → Tells settings file status old new
 at_entry settings file image Done old new is (text, wanted, sent) = (text, record { image = image; is_image = is; text_is = wanted }, sent)
 at_entry settings file image WriteFault old new is (text, wanted, sent) = (text, record { image = image; is_image = is; text_is = wanted }, sent)
 at_entry settings file image OutOfMemory old new is (inl kept) = inl kept
@@ -138,6 +132,6 @@ at_entry settings file image (Elf fault) old new is told = absurd told
 
 -- what a status says of the program of a file
 pub program_told : (settings : Settings) (file : List ℕ) (image : Image) (entry : ℕ) (status : Status) (old new : Option (List ℕ))
-    → image_of file ≡ Ok image → entry ≡ entry_of settings image → ToldAt settings image entry status old new → Tells settings file status old new
+    → image_of file ≡ Ok image → entry ≡ entry_of settings image → SaysOfProgram settings.ask image entry status old new → Tells settings file status old new
 program_told settings file image entry status old new is same told =
-    at_entry settings file image status old new is (subst (λ (entry : ℕ). ToldAt settings image entry status old new) same told)
+    at_entry settings file image status old new is (subst (λ (entry : ℕ). SaysOfProgram settings.ask image entry status old new) same told)

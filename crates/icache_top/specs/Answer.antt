@@ -18,8 +18,9 @@ use Rattle.flow_spec.specs.Acceptance.{IsAccepted, IsRefused}
 use Rattle.flow_spec.specs.Successors.{successors}
 use Rattle.report_spec.specs.Report.{IsReport}
 use Rattle.report_spec.specs.Graph.{IsGraphText}
+use Rattle.command_spec.specs.declared.settings.Ask.{Ask}
+use Rattle.command_spec.specs.declared.settings.Ask.TheVariants.{Report, Graph}
 use Rattle.command_spec.specs.declared.settings.Settings.{Settings}
-use Rattle.command_spec.specs.declared.settings.Settings.TheVariants.{Classify, Graph}
 use Rattle.command_spec.specs.Settings.{settings_of}
 use Rattle.one_answer.specs.Alike.{AreAlikeTexts}
 use Rattle.node_verdicts.specs.declared.verdicts.VerdictsFault.{VerdictsFault}
@@ -37,47 +38,42 @@ file_limit = 16777216
 abbrev pub Reads : Option (List ℕ) → Option (List ℕ) → List ℕ → Type 0
 Reads left now file = Consumes left now file × IsAtEnd now × (length file ≤ file_limit)
 
--- where the words say that the program begins, if they say so
-abbrev pub entry_in : Settings → Option ℕ
-entry_in (Classify geometry entry contexts) = entry
-entry_in (Graph entry) = entry
-
--- where the program begins: as the words say, or else as the file says
+-- where the program begins: as the arguments say, or else as the file says
 abbrev pub entry_of : Settings → Image → ℕ
-entry_of settings image = unwrap_or (entry_in settings) image.entry
+entry_of settings image = unwrap_or settings.entry image.entry
 
 -- the addresses that the configurations of these layers fetch
 abbrev pub addresses_of : List (List Configuration) → List ℕ
 addresses_of layers = map (λ (c : Configuration). c.at) (all_of layers)
 
--- the text that the settings ask for, of a program with these layers: a report, where no set has too many fetched
--- blocks, or the text of the graph
-abbrev pub IsTextFrom : Settings → Image → ℕ → List (List Configuration) → List ℕ → Type 0
-IsTextFrom (Classify geometry words_entry contexts) image entry layers text =
-    HaveFewInAll (addresses_of layers) geometry × IsReport image entry geometry contexts text
-IsTextFrom (Graph words_entry) image entry layers text = IsGraphText image entry text
+-- the text that is asked for, of a program with these layers: a report, where no set has too many fetched blocks, or the
+-- text of the graph
+abbrev pub IsTextFrom : Ask → Image → ℕ → List (List Configuration) → List ℕ → Type 0
+IsTextFrom (Report ask) image entry layers text =
+    HaveFewInAll (addresses_of layers) ask.geometry × IsReport image entry ask.geometry ask.contexts text
+IsTextFrom Graph image entry layers text = IsGraphText image entry text
 
--- a set has too many fetched blocks for what the settings ask for: the first such one, and this many
-abbrev pub IsTooMuchFor : Settings → List (List Configuration) → ℕ → ℕ → Type 0
-IsTooMuchFor (Classify geometry words_entry contexts) layers set count = HaveMany (addresses_of layers) geometry set count
-IsTooMuchFor (Graph words_entry) layers set count = ⊥
+-- a set has too many fetched blocks for what is asked for: the first such one, and this many
+abbrev pub IsTooMuchFor : Ask → List (List Configuration) → ℕ → ℕ → Type 0
+IsTooMuchFor (Report ask) layers set count = HaveMany (addresses_of layers) ask.geometry set count
+IsTooMuchFor Graph layers set count = ⊥
 
 -- the program is accepted with its layers, and they are such
 abbrev pub IsAcceptedWith : Image → ℕ → (List (List Configuration) → Type 0) → Type 0
 IsAcceptedWith image entry IsSuch =
     (layers : List (List Configuration)) × IsAccepted (successors image entry) image entry layers × IsSuch layers
 
--- the file is read, and the text is what the settings ask for of its program
+-- the file is read, and the text is what is asked for of its program
 pub record IsAnswerOf (settings : Settings) (file text : List ℕ) : Type 0 where
   pub image : Image
   pub is_image : image_of file ≡ Ok image
-  pub text_is : IsAcceptedWith image (entry_of settings image) (λ layers. IsTextFrom settings image (entry_of settings image) layers text)
+  pub text_is : IsAcceptedWith image (entry_of settings image) (λ layers. IsTextFrom settings.ask image (entry_of settings image) layers text)
 
--- the file is read, and the first set of its program with too many fetched blocks is this one, with so many
+-- the file is read, and the first set of its program with too many fetched blocks is this one, with `count` of them
 pub record HasManyBlocks (settings : Settings) (file : List ℕ) (set count : ℕ) : Type 0 where
   pub image : Image
   pub is_image : image_of file ≡ Ok image
-  pub too_much : IsAcceptedWith image (entry_of settings image) (λ layers. IsTooMuchFor settings layers set count)
+  pub too_much : IsAcceptedWith image (entry_of settings image) (λ layers. IsTooMuchFor settings.ask layers set count)
 
 -- the file isn't read as an executable, and this is why: the answer of the first test that fails
 abbrev pub HasElfFault : List ℕ → ElfFault → Type 0
@@ -101,6 +97,13 @@ ToldOf Refused HasMany IsWanted Usage old new = ⊥
 ToldOf Refused HasMany IsWanted ReadFault old new = ⊥
 ToldOf Refused HasMany IsWanted FileTooBig old new = ⊥
 ToldOf Refused HasMany IsWanted (Elf fault) old new = ⊥
+
+-- what a status says of the program that begins at the entry, and of what the sink got
+abbrev pub SaysOfProgram : Ask → Image → ℕ → Status → Option (List ℕ) → Option (List ℕ) → Type 0
+SaysOfProgram ask image entry =
+    ToldOf (IsRefused (successors image entry) image entry)
+    (λ set count. IsAcceptedWith image entry (λ layers. IsTooMuchFor ask layers set count))
+    (λ text. IsAcceptedWith image entry (λ layers. IsTextFrom ask image entry layers text))
 
 -- what a status says of the file that was read, and of what the sink got
 abbrev pub Tells : Settings → List ℕ → Status → Option (List ℕ) → Option (List ℕ) → Type 0
@@ -153,9 +156,9 @@ Decides words file WriteFault old new = ⊥
 Decides words file status old new = SaysOf words file status old new
 
 -- two texts are the same but for what is free in them: the ways of a report's unknown lines
-abbrev pub AreSameFor : Settings → List ℕ → List ℕ → Type 0
-AreSameFor (Classify geometry entry contexts) text other = AreAlikeTexts text other
-AreSameFor (Graph entry) text other = text ≡ other
+abbrev pub AreSameFor : Ask → List ℕ → List ℕ → Type 0
+AreSameFor (Report ask) text other = AreAlikeTexts text other
+AreSameFor Graph text other = text ≡ other
 
 -- the end of a sending, as a status
 abbrev pub sent_as : Result (Unit {0}) SendStop → Result (Unit {0}) Status

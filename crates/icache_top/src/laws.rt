@@ -12,5 +12,5 @@ pub fn answer_laws()
         → Decides words file status old new → Decides words file other before now
         → status ≢ Status.OutOfMemory → other ≢ Status.OutOfMemory → status ≡ other }
     ensures text { (settings : Settings) (file text other : List ℕ)
-        → IsAnswerOf settings file text → IsAnswerOf settings file other → AreSameFor settings text other }
+        → IsAnswerOf settings file text → IsAnswerOf settings file other → AreSameFor settings.ask text other }
 {}

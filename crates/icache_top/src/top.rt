@@ -1,22 +1,19 @@
-ghost use Rattle.std.specs.Prelude.{◌≡◌, ◌≢◌, ◌↔◌, ℕ, ◌≤◌, List, [], Option, Some, IsNone, IsSome, IfSome, IfErr, length};
+ghost use Rattle.std.specs.Prelude.{◌≡◌, ◌≢◌, ◌↔◌, ℕ, ◌≤◌, List, [], Some, IsNone, IsSome, IfSome, IfErr, length};
 ghost use Rattle.byte_port.specs.Count.{Rose};
 ghost use Rattle.byte_port.specs.Sent.{Reports};
 ghost use Rattle.command_spec.specs.Settings.{settings_of};
 ghost use Rattle.top_words.specs.Views.{bytes_of};
 ghost use Rattle.top_words.specs.FaultText.{fault_text};
 ghost use Rattle.top_words.specs.Status.{KeepsMemoryApart};
-ghost use Rattle.flow_spec.specs.Acceptance.{IsRefused};
-ghost use Rattle.flow_spec.specs.Successors.{successors};
 ghost use Rattle.report_lines.specs.Findings.{IsWithin};
-ghost use Rattle.icache_top.specs.Answer.{Answers, CountsOut, CountsOutRefusals, CountsSource, Decides, IsAcceptedWith, IsTextFrom, IsTooMuchFor, ReadsFor, SaysOf, Tells, ToldOf, WritesFor, sent_as, settled_as, status_of, file_limit};
+ghost use Rattle.icache_top.specs.Answer.{Answers, CountsOut, CountsOutRefusals, CountsSource, Decides, ReadsFor, SaysOf, SaysOfProgram, Tells, WritesFor, sent_as, settled_as, status_of, file_limit};
 
 use crate::graph::send_graph;
 use crate::report::{Findings, send_report};
 use crate::{Gate, Jobs, NodeWords, Outcome, Status};
 use byte_port::{Sink, Source, read_all};
-use cache_geom::Geometry;
 use call_expand::expand;
-use command_spec::Settings;
+use command_spec::{Ask, ReportAsk, Settings};
 use elf_image::Image;
 use line_sender::SendStop;
 use node_verdicts::{VerdictsFault, node_verdicts};
@@ -130,16 +127,10 @@ fn answer_file<O: Sink>(
     ensures memory { KeepsMemoryApart (status_of result) }
 {
     let image = elf_image::read(alloc, file)?;
-    match *settings {
-        Settings::Classify {
-            geometry,
-            entry,
-            contexts,
-        } => {
-            let entry = entry.unwrap_or(image.entry());
-            classify(alloc, out, &image, &geometry, entry, contexts)
-        }
-        Settings::Graph { entry } => graph(alloc, out, &image, entry.unwrap_or(image.entry())),
+    let entry = settings.entry.unwrap_or(image.entry());
+    match &settings.ask {
+        Ask::Report(ask) => classify(alloc, out, &image, entry, ask),
+        Ask::Graph => graph(alloc, out, &image, entry),
     }
 }
 
@@ -148,40 +139,31 @@ fn classify<O: Sink>(
     alloc: Global,
     out: &mut O,
     image: &Image,
-    geometry: &Geometry,
     entry: u32,
-    contexts: bool,
+    ask: &ReportAsk,
 ) -> Result<(), Status>
     requires { IsWithin image.now }
     ensures not_done { IfErr result (λ status. status ≢ Status.Done) }
-    ensures told { (words_entry : Option ℕ) → let settings = Settings.Classify geometry.now words_entry contexts in
-        ToldOf (IsRefused (successors image.now entry) image.now entry)
-        (λ set count. IsAcceptedWith image.now entry (λ layers. IsTooMuchFor settings layers set count))
-        (λ text. IsAcceptedWith image.now entry (λ layers. IsTextFrom settings image.now entry layers text))
-        (status_of result) (O.sent out.old) (O.sent out.new) }
+    ensures told { SaysOfProgram (Ask.Report ask.now) image.now entry (status_of result) (O.sent out.old) (O.sent out.new) }
     ensures writes { CountsOut (status_of result) (O.faults out.old) (O.faults out.new) }
     ensures refusals { CountsOutRefusals (status_of result) (O.refusals out.old) (O.refusals out.new) }
     ensures writing { WritesFor O.writes (status_of result) out.old out.new }
     ensures memory { KeepsMemoryApart (status_of result) }
 {
     let expanded = expand(alloc, image, entry)?;
-    let verdicts = settled(node_verdicts(alloc, expanded.graph(), geometry))?;
+    let verdicts = settled(node_verdicts(alloc, expanded.graph(), &ask.geometry))?;
     let found = Findings {
         image,
         expanded: &expanded,
         verdicts: &verdicts,
     };
-    sent(send_report(alloc, out, &found, contexts))
+    sent(send_report(alloc, out, &found, ask.contexts))
 }
 
 /// Sends the text of a program's graph.
 fn graph<O: Sink>(alloc: Global, out: &mut O, image: &Image, entry: u32) -> Result<(), Status>
     ensures not_done { IfErr result (λ status. status ≢ Status.Done) }
-    ensures told { (words_entry : Option ℕ) → let settings = Settings.Graph words_entry in
-        ToldOf (IsRefused (successors image.now entry) image.now entry)
-        (λ set count. IsAcceptedWith image.now entry (λ layers. IsTooMuchFor settings layers set count))
-        (λ text. IsAcceptedWith image.now entry (λ layers. IsTextFrom settings image.now entry layers text))
-        (status_of result) (O.sent out.old) (O.sent out.new) }
+    ensures told { SaysOfProgram Ask.Graph image.now entry (status_of result) (O.sent out.old) (O.sent out.new) }
     ensures writes { CountsOut (status_of result) (O.faults out.old) (O.faults out.new) }
     ensures refusals { CountsOutRefusals (status_of result) (O.refusals out.old) (O.refusals out.new) }
     ensures writing { WritesFor O.writes (status_of result) out.old out.new }

@@ -1,7 +1,7 @@
 use crate::{Status, read_words, text_of};
 use byte_port::{ReadStop, SinkFault};
 use cache_geom::Geometry;
-use command_spec::Settings;
+use command_spec::{Ask, ReportAsk, Settings};
 use elf_spec::ElfFault;
 use flow_spec::FlowFault;
 use std::alloc::{AllocError, Global};
@@ -19,11 +19,8 @@ fn settings_of(alloc: Global, line: &str) -> Result<Option<Settings>, AllocError
 fn classify(shape: (u32, u32, u32), entry: Option<u32>, contexts: bool) -> Option<Settings> {
     let (line, sets, ways) = shape;
     let geometry = Geometry::new(line, sets, ways)?;
-    Some(Settings::Classify {
-        geometry,
-        entry,
-        contexts,
-    })
+    let ask = Ask::Report(ReportAsk { geometry, contexts });
+    Some(Settings { entry, ask })
 }
 
 #[test]
@@ -73,7 +70,8 @@ fn contexts_has_no_value_and_stands_in_any_place(rt: HostRuntime) -> Result<(), 
 #[test]
 fn a_graph_may_have_an_entry(rt: HostRuntime) -> Result<(), Fail> {
     for (line, entry) in [("graph", None), ("graph --entry 0x0001000a", Some(0x1000a))] {
-        let wanted = Some(Settings::Graph { entry });
+        let ask = Ask::Graph;
+        let wanted = Some(Settings { entry, ask });
         assert_eq!(rt; settings_of(rt.alloc(), line)?, wanted, "at {line}");
     }
     Ok(())

@@ -1,10 +1,12 @@
-use Rattle.std.proofs.Common.{◌≡◌, ◌∙◌, sym, ap, subst, length, All}
-use Rattle.std.specs.Prelude.{unwrap_or}
-use Rattle.elf_spec.specs.Image.{Image}
+use Rattle.std.proofs.Common.{◌≡◌, ◌∙◌, ℕ, List, sym, ap, subst, length, All}
+use Rattle.std.specs.Prelude.{Ok, Option, unwrap_or}
+use Rattle.elf_spec.specs.Image.{Image, image_of}
 use Rattle.elf_image.specs.Fits.{SegmentFits}
+use Rattle.command_spec.specs.declared.settings.Ask.{Ask}
+use Rattle.command_spec.specs.declared.settings.Ask.TheVariants.{Report, Graph}
 use Rattle.command_spec.specs.declared.settings.Settings.{Settings}
-use Rattle.command_spec.specs.declared.settings.Settings.TheVariants.{Classify, Graph}
-use Rattle.icache_top.specs.Answer.{Tells, status_of, entry_of}
+use Rattle.top_words.specs.declared.status.Status.{Status}
+use Rattle.icache_top.specs.Answer.{SaysOfProgram, Tells, status_of}
 use Rattle.icache_top.proofs.Told.{elf_told, program_told}
 use Rattle.icache_top.proofs.Within.{within}
 use Rattle.icache_top.proofs.top.answer_file.Goals as goal
@@ -20,26 +22,23 @@ Kept image = All (SegmentFits (length image.file)) image.segments
 pub classify-requires : goal.classify-requires
 classify-requires g c = within c.in_ok-image.image (subst Kept c.image.view_is c.image.invariant.each)
 
-pub returns-in-Classify-clause-told : goal.returns-in-Classify-clause-told
-returns-in-Classify-clause-told g c =
-    let file = c.args.file.items in
-    let image = c.in_ok-image.image in
-    let settings = Classify c.in-Classify.geometry c.in-Classify.entry c.in-Classify.contexts in
-    let entry : c.unwrap_or-entry.result ≡ entry_of settings image =
-    c.unwrap_or-entry.ensures ∙ ap (λ own. unwrap_or c.in-Classify.entry own) c.entry.ensures in
-    let P : Settings → Type 0 =
-    λ settings. Tells settings file (status_of c.classify.result) (g.O.Sink.sent c.args.out.now) (g.O.Sink.sent c.classify.new.out) in
-    subst P (sym c.in-Classify.is) (program_told settings file image c.unwrap_or-entry.result (status_of c.classify.result) _ _ c.in_ok-image.ensures.image entry
-    (c.classify.ensures.told c.in-Classify.entry))
+-- what is said of the program is said of the file, where this is what the settings ask for and where it begins
+says : (settings : Settings) (file : List ℕ) (image : Image) (own entry : ℕ) (ask : Ask) (status : Status)
+    (old new : Option (List ℕ))
+    → image_of file ≡ Ok image → own ≡ image.entry → entry ≡ unwrap_or settings.entry own → settings.ask ≡ ask
+    → SaysOfProgram ask image entry status old new → Tells settings file status old new
+says settings file image own entry ask status old new is same begins asked said =
+    program_told settings file image entry status old new is (begins ∙ ap (unwrap_or settings.entry) same)
+    (subst (λ (ask : Ask). SaysOfProgram ask image entry status old new) (sym asked) said)
+
+pub returns-in-Report-clause-told : goal.returns-in-Report-clause-told
+returns-in-Report-clause-told g c =
+    says c.args.settings.now c.args.file.items c.in_ok-image.image c.entry.result c.unwrap_or-entry.result
+    (Report c.in-Report.ask) (status_of c.classify.result) _ _ c.in_ok-image.ensures.image c.entry.ensures
+    c.unwrap_or-entry.ensures c.in-Report.is c.classify.ensures.told
 
 pub returns-clause-told : goal.returns-clause-told
 returns-clause-told g c =
-    let file = c.args.file.items in
-    let image = c.in_ok-image.image in
-    let settings = Graph c.in-Graph.entry in
-    let entry : c.unwrap_or.result ≡ entry_of settings image =
-    c.unwrap_or.ensures ∙ ap (λ own. unwrap_or c.in-Graph.entry own) c.entry-in-Graph.ensures in
-    let P : Settings → Type 0 =
-    λ settings. Tells settings file (status_of c.graph.result) (g.O.Sink.sent c.args.out.now) (g.O.Sink.sent c.graph.new.out) in
-    subst P (sym c.in-Graph.is) (program_told settings file image c.unwrap_or.result (status_of c.graph.result) _ _ c.in_ok-image.ensures.image entry
-    (c.graph.ensures.told c.in-Graph.entry))
+    says c.args.settings.now c.args.file.items c.in_ok-image.image c.entry.result c.unwrap_or-entry.result
+    Graph (status_of c.graph.result) _ _ c.in_ok-image.ensures.image c.entry.ensures
+    c.unwrap_or-entry.ensures c.in-Graph.is c.graph.ensures.told

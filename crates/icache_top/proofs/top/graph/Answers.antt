@@ -5,13 +5,13 @@ use Rattle.icache_top.proofs.GraphLines.{graph_text}
 use Rattle.icache_top.proofs.top.graph.Goals as goal
 
 pub returns-clause-told : goal.returns-clause-told
-returns-clause-told g c words_entry =
+returns-clause-told g c =
     sent_told _ _ _ _ _ _ c.send_graph.result c.sent.result
-    (graph_text c.args.image.now c.args.entry words_entry c.in_ok-expanded.expanded c.in_ok-expanded.ensures.accepted c.in_ok-expanded.ensures.graph)
+    (graph_text c.args.image.now c.args.entry c.in_ok-expanded.expanded c.in_ok-expanded.ensures.accepted c.in_ok-expanded.ensures.graph)
     c.sent.ensures c.send_graph.ensures.whole c.send_graph.ensures.part
 
 pub returns-in_err-expanded-clause-told : goal.returns-in_err-expanded-clause-told
-returns-in_err-expanded-clause-told g c words_entry =
+returns-in_err-expanded-clause-told g c =
     flow_told _ _ _ (g.O.Sink.sent c.args.out.now) c.in_err-expanded.field-0.0 c.from_residual.result c.in_err-expanded.ensures.refused
     c.from_residual.ensures.1
 
