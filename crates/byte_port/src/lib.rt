@@ -24,19 +24,31 @@ mod streams;
 pub use failing::{MemSink, MemSource};
 pub use memory::{SureSink, SureSource};
 pub use port::{ReadPort, WritePort};
+use std::alloc::AllocError;
 pub use streams::{ReadStop, read_all, send_all};
 
 /// A read that failed. The count of faults rose.
 #[derive(Clone, Copy, Debug, PartialEq, Eq)]
 pub struct Failed;
 
-/// Why a write failed.
+/// Why a write failed, or a sending of several.
 #[derive(Clone, Copy, Debug, PartialEq, Eq)]
 pub enum SinkFault {
     /// The outside failed, or took nothing of a piece that has bytes. The count of faults rose.
     Failed,
-    /// The sink had no memory for the bytes. The count of refusals rose.
+    /// The sink had no memory for the bytes, and the count of refusals rose; or the sender had none for its own.
     OutOfMemory,
+}
+
+impl From<AllocError> for SinkFault {
+    ghost use Rattle.std.specs.Prelude.{◌≡◌};
+    ghost use Rattle.byte_port.specs.declared.SinkFault.TheVariants as faults;
+
+    ghost from_gives = { λ _ fault. fault ≡ faults.OutOfMemory };
+
+    fn from(_: AllocError) -> Self {
+        SinkFault::OutOfMemory
+    }
 }
 
 /// What gives bytes, up to its end.

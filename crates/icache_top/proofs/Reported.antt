@@ -1,23 +1,19 @@
 -- What was found of a program, and its report.
-use Rattle.std.proofs.Common.{◌≡◌, ℕ, List, [], ◌∷◌, length, map, refl, ap, ◌∙◌, subst, Option}
-use Rattle.std.specs.Prelude.{Bool, Result, Ok, Err, IfOk, IfErr, OnOk, OnErr}
-use Rattle.std.specs.Io.KnownBytes.{Appends}
+use Rattle.std.proofs.Common.{◌≡◌, ℕ, List, [], ◌∷◌, length, map, refl, ap, ◌∙◌, sym, subst}
+use Rattle.std.specs.Prelude.{Result, Ok, Err, IfOk, IfErr}
 use Rattle.std.specs.List.{AllZip}
-use Rattle.byte_port.specs.Stream.{SendsPrefix}
 use Rattle.elf_spec.specs.Image.{Image}
 use Rattle.cache_spec.specs.Geometry.{Geometry}
 use Rattle.transition_spec.specs.Layer.{all_of}
 use Rattle.flow_spec.specs.Acceptance.{Step, IsAccepted}
 use Rattle.flow_spec.specs.Configuration.{Configuration}
 use Rattle.flow_spec.specs.Successors.{successors}
-use Rattle.flow_spec.specs.declared.fault.FlowFault.{FlowFault}
 use Rattle.path_model.specs.declared.graph.Node.{Node}
 use Rattle.report_spec.specs.declared.line.Verdict.{Verdict}
 use Rattle.report_spec.specs.Text.{text_of}
 use Rattle.call_expand.specs.Expansion.{Expansion, IsNodeOf, IsGraphOf}
 use Rattle.command_spec.specs.declared.settings.Ask.TheVariants.{Report}
 use Rattle.command_spec.specs.declared.settings.ReportAsk.{ReportAsk}
-use Rattle.line_sender.specs.declared.SendStop.{SendStop}
 use Rattle.focus_spec.specs.Blocks.{HaveFewInAll, HaveMany}
 use Rattle.node_verdicts.specs.Verdicts.{AreRight, IsFault}
 use Rattle.path_model.specs.Graph.{addresses_of as node_addresses}
@@ -25,10 +21,9 @@ use Rattle.node_verdicts.specs.declared.verdicts.VerdictsFault.{VerdictsFault}
 use Rattle.node_verdicts.specs.declared.verdicts.VerdictsFault.TheVariants as faults
 use Rattle.report_lines.specs.Findings.{IsWithin, AreFindings}
 use Rattle.report_lines.proofs.Made.{report}
-use Rattle.top_words.specs.declared.status.Status.{Status}
 use Rattle.icache_top.specs.Lines.{SendsAll}
-use Rattle.icache_top.specs.Answer.{IsAcceptedWith, IsTextFrom, IsTooMuchFor, ToldOf, addresses_of, sent_as, settled_as, status_of}
-use Rattle.icache_top.proofs.Told.{IsManyFault, sent_told}
+use Rattle.icache_top.specs.Answer.{IsAcceptedWith, IsTextFrom, IsTooMuchFor, addresses_of, settled_as}
+use Rattle.icache_top.proofs.Told.{IsManyFault}
 
 -- the nodes fetch the addresses of their configurations
 zipped_addresses : (step : Step) (all configurations : List Configuration) (nodes : List Node) → AllZip (IsNodeOf step all) configurations nodes
@@ -39,6 +34,17 @@ zipped_addresses step all (c ∷ configurations) [] zipped = absurd zipped
 zipped_addresses step all (c ∷ configurations) (node ∷ nodes) zipped =
     ap (λ (at : ℕ). at ∷ node_addresses nodes) zipped.0.at
     ∙ ap (λ (rest : List ℕ). c.at ∷ rest) (zipped_addresses step all configurations nodes zipped.1)
+
+-- verdicts that were found stay so as a status would be handed on
+pub settled_ok : {V : Type 0} (found : Result V VerdictsFault) (verdicts : V) → settled_as found ≡ Ok verdicts → found ≡ Ok verdicts
+settled_ok (Ok other) verdicts is = let same : other ≡ verdicts = cc is in ap Ok same
+settled_ok (Err (faults.TooManyBlocks set count)) verdicts is = absurd (cc is)
+settled_ok (Err faults.OutOfMemory) verdicts is = absurd (cc is)
+
+-- what holds of a value that is there
+pub ok_at : {V E : Type 0} (P : V → Type 0) (r : Result V E) (value : V) → r ≡ Ok value → IfOk r P → P value
+ok_at P (Ok other) value is holds = let same : other ≡ value = cc is in subst P same holds
+ok_at P (Err error) value is holds = absurd (cc is)
 
 module _ (image : Image) (entry : ℕ) (ask : ReportAsk) (expanded : Expansion)
     (accepted : (layers : List (List Configuration)) × IsAccepted (successors image entry) image entry layers × (expanded.configurations ≡ all_of layers))
@@ -67,47 +73,43 @@ module _ (image : Image) (entry : ℕ) (ask : ReportAsk) (expanded : Expansion)
     right = subst (λ (ns : List Node). AreRight ns ask.geometry verdicts) same right;
   }
 
-  module _ (verdicts : List Verdict) (found : AreFindings image entry ask.geometry expanded.configurations expanded.nodes verdicts)
-      (few : HaveFewInAll (node_addresses expanded.nodes) ask.geometry) where
-    -- all lines are the text that is wanted
-    wanted : (Sent : List ℕ → Type 0) → SendsAll ask.contexts image expanded verdicts Sent
-        → (text : List ℕ) × IsAcceptedWith image entry (λ layers. IsTextFrom (Report ask) image entry layers text) × Sent text
-    wanted Sent (lines, all, sent) = (
-      text_of lines,
+  -- all lines are the text that is wanted
+  wanted : (verdicts : List Verdict) → AreFindings image entry ask.geometry expanded.configurations expanded.nodes verdicts
+      → HaveFewInAll (node_addresses expanded.nodes) ask.geometry → (Sent : List ℕ → Type 0)
+      → SendsAll ask.contexts image expanded verdicts Sent
+      → (text : List ℕ) × IsAcceptedWith image entry (λ layers. IsTextFrom (Report ask) image entry layers text) × Sent text
+  wanted verdicts found few Sent (lines, all, sent) = (
+    text_of lines,
+    (
+      accepted.0,
+      accepted.1,
       (
-        accepted.0,
-        accepted.1,
-        (
-          subst (λ (addresses : List ℕ). HaveFewInAll addresses ask.geometry) addresses_same few,
-          report image entry ask.geometry expanded.configurations expanded.nodes verdicts found ask.contexts lines all,
-        ),
+        subst (λ (addresses : List ℕ). HaveFewInAll addresses ask.geometry) addresses_same few,
+        report image entry ask.geometry expanded.configurations expanded.nodes verdicts found ask.contexts lines all,
       ),
-      sent,
-    )
+    ),
+    sent,
+  )
 
-    -- what a sending of the report says
-    pub report_told : (Refused : FlowFault → Type 0) (HasMany : ℕ → ℕ → Type 0) (old new : Option (List ℕ)) (sending : Result (Unit {0}) SendStop)
-        → (r : Result (Unit {0}) Status) → r ≡ sent_as sending → OnOk sending (SendsAll ask.contexts image expanded verdicts (Appends old new))
-        → OnErr sending (SendsAll ask.contexts image expanded verdicts (SendsPrefix old new))
-        → ToldOf Refused HasMany (λ text. IsAcceptedWith image entry (λ layers. IsTextFrom (Report ask) image entry layers text))
-        (status_of r) old new
-    report_told Refused HasMany old new (Ok done) r is whole part =
-        let (text, is_wanted, sent) = wanted (Appends old new) whole in
-        sent_told Refused HasMany _ old new text (Ok done) r is_wanted is sent tt
-    report_told Refused HasMany old new (Err stop) r is whole part =
-        let (text, is_wanted, sent) = wanted (SendsPrefix old new) part in
-        sent_told Refused HasMany _ old new text (Err stop) r is_wanted is tt sent
+  -- what the search for verdicts found of the graph's nodes, where it found some
+  module _ {V : Type 0} (items : V → List Verdict) (nodes : List Node) (result : Result V VerdictsFault) (kept : V) (now : List Verdict)
+      (was : settled_as result ≡ Ok kept) (is_now : now ≡ items kept) (same : nodes ≡ expanded.nodes) (within : IsWithin image)
+      (one_each : IfOk result (λ v. length (items v) ≡ length nodes)) (right : IfOk result (λ v. AreRight nodes ask.geometry (items v))) where
+    -- its findings are right
+    pub found_now : AreFindings image entry ask.geometry expanded.configurations expanded.nodes now
+    found_now =
+        let found = settled_ok result kept was in
+        subst (λ (vs : List Verdict). AreFindings image entry ask.geometry expanded.configurations expanded.nodes vs) (sym is_now)
+        (findings nodes (items kept) same within (ok_at (λ v. length (items v) ≡ length nodes) result kept found one_each)
+        (ok_at (λ v. AreRight nodes ask.geometry (items v)) result kept found right))
 
--- verdicts that were found stay so as a status would be handed on
-pub settled_ok : {V : Type 0} (found : Result V VerdictsFault) (verdicts : V) → settled_as found ≡ Ok verdicts → found ≡ Ok verdicts
-settled_ok (Ok other) verdicts is = let same : other ≡ verdicts = cc is in ap Ok same
-settled_ok (Err (faults.TooManyBlocks set count)) verdicts is = absurd (cc is)
-settled_ok (Err faults.OutOfMemory) verdicts is = absurd (cc is)
-
--- what holds of a value that is there
-pub ok_at : {V E : Type 0} (P : V → Type 0) (r : Result V E) (value : V) → r ≡ Ok value → IfOk r P → P value
-ok_at P (Ok other) value is holds = let same : other ≡ value = cc is in subst P same holds
-ok_at P (Err error) value is holds = absurd (cc is)
+    -- and their lines are the text that is wanted
+    pub wanted_now : IfOk result (λ v. HaveFewInAll (node_addresses nodes) ask.geometry) → (Sent : List ℕ → Type 0)
+        → SendsAll ask.contexts image expanded now Sent
+        → (text : List ℕ) × IsAcceptedWith image entry (λ layers. IsTextFrom (Report ask) image entry layers text) × Sent text
+    wanted_now few =
+        let few_now = ok_at (λ v. HaveFewInAll (node_addresses nodes) ask.geometry) result kept (settled_ok result kept was) few in
+        wanted now found_now (subst (λ (ns : List Node). HaveFewInAll (node_addresses ns) ask.geometry) same few_now)
 
 -- what holds of a fault, where something weaker is asked
 pub err_weaker : {V E : Type 0} (P Q : E → Type 0) → ((e : E) → P e → Q e) → (r : Result V E) → IfErr r P → IfErr r Q

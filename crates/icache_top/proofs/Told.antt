@@ -1,7 +1,6 @@
 -- What a status says of the file that was read.
 use Rattle.std.proofs.Common.{◌≡◌, ◌⊎◌, ℕ, List, sym, subst, inl, inr}
-use Rattle.std.specs.Prelude.{Option, Ok, Err, Result, IsErrAnd, IfErr, OnOk, OnErr}
-use Rattle.std.specs.Io.KnownBytes.{Appends}
+use Rattle.std.specs.Prelude.{Option, Ok, Err, Result, IsErrAnd, IfErr}
 use Rattle.std.proofs.KnownBytes.{Keeps-refl}
 use Rattle.byte_port.specs.Stream.{SendsPrefix}
 use Rattle.elf_spec.specs.Image.{Image, image_of}
@@ -14,30 +13,27 @@ use Rattle.flow_spec.specs.Successors.{successors}
 use Rattle.node_verdicts.specs.declared.verdicts.VerdictsFault.{VerdictsFault}
 use Rattle.node_verdicts.specs.declared.verdicts.VerdictsFault.TheVariants as faults
 use Rattle.command_spec.specs.declared.settings.Settings.{Settings}
-use Rattle.line_sender.specs.declared.SendStop.{SendStop}
-use Rattle.line_sender.specs.declared.SendStop.TheVariants as stops
+use Rattle.byte_port.specs.declared.SinkFault.{SinkFault}
+use Rattle.byte_port.specs.declared.SinkFault.TheVariants as sinks
 use Rattle.top_words.specs.declared.status.Status.{Status}
 use Rattle.top_words.specs.declared.status.Status.TheVariants.{Done, Usage, OutOfMemory, ReadFault, WriteFault, FileTooBig, Elf, Flow, TooManyBlocks}
-use Rattle.top_words.specs.Status.{of_elf, of_flow}
-use Rattle.icache_top.specs.Answer.{ToldOf, Tells, SaysOfProgram, entry_of, sent_as, settled_as, status_of}
-
--- a wanted text was sent
-pub sent_told : (Refused : FlowFault → Type 0) (HasMany : ℕ → ℕ → Type 0) (IsWanted : List ℕ → Type 0) (old new : Option (List ℕ)) (text : List ℕ)
-    → (sending : Result (Unit {0}) SendStop) → (r : Result (Unit {0}) Status) → IsWanted text → r ≡ sent_as sending
-    → OnOk sending (Appends old new text) → OnErr sending (SendsPrefix old new text) → ToldOf Refused HasMany IsWanted (status_of r) old new
-sent_told Refused HasMany IsWanted old new text (Ok done) r wanted is whole part =
-    let P : Result (Unit {0}) Status → Type 0 = λ r. ToldOf Refused HasMany IsWanted (status_of r) old new in
-    subst P (sym is) (text, wanted, whole)
-sent_told Refused HasMany IsWanted old new text (Err stops.Failed) r wanted is whole part =
-    let P : Result (Unit {0}) Status → Type 0 = λ r. ToldOf Refused HasMany IsWanted (status_of r) old new in
-    subst P (sym is) (text, wanted, part)
-sent_told Refused HasMany IsWanted old new text (Err stops.OutOfMemory) r wanted is whole part =
-    let P : Result (Unit {0}) Status → Type 0 = λ r. ToldOf Refused HasMany IsWanted (status_of r) old new in
-    subst P (sym is) (inr (text, wanted, part))
+use Rattle.top_words.specs.Status.{of_elf, of_flow, of_sink}
+use Rattle.icache_top.specs.Answer.{ToldOf, Tells, SaysOfProgram, entry_of, settled_as, status_of}
 
 status_is : (r : Result (Unit {0}) Status) (status : Status) → IsErrAnd r (λ s. s ≡ status) → status_of r ≡ status
 status_is (Ok done) status h = absurd h
 status_is (Err s) status h = h
+
+-- a prefix of a wanted text was sent, and this fault ended it
+pub sent_told : (Refused : FlowFault → Type 0) (HasMany : ℕ → ℕ → Type 0) (IsWanted : List ℕ → Type 0) (old new : Option (List ℕ)) (text : List ℕ)
+    → (fault : SinkFault) (r : Result (Unit {0}) Status) → IsWanted text → SendsPrefix old new text → IsErrAnd r (λ s. s ≡ of_sink fault)
+    → ToldOf Refused HasMany IsWanted (status_of r) old new
+sent_told Refused HasMany IsWanted old new text sinks.Failed r wanted part gives =
+    let P : Status → Type 0 = λ status. ToldOf Refused HasMany IsWanted status old new in
+    subst P (sym (status_is r WriteFault gives)) (text, wanted, part)
+sent_told Refused HasMany IsWanted old new text sinks.OutOfMemory r wanted part gives =
+    let P : Status → Type 0 = λ status. ToldOf Refused HasMany IsWanted status old new in
+    subst P (sym (status_is r OutOfMemory gives)) (inr (text, wanted, part))
 
 -- a fault of the program, as a status
 

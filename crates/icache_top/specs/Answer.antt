@@ -25,8 +25,6 @@ use Rattle.command_spec.specs.Settings.{settings_of}
 use Rattle.one_answer.specs.Alike.{AreAlikeTexts}
 use Rattle.node_verdicts.specs.declared.verdicts.VerdictsFault.{VerdictsFault}
 use Rattle.node_verdicts.specs.declared.verdicts.VerdictsFault.TheVariants as faults
-use Rattle.line_sender.specs.declared.SendStop.{SendStop}
-use Rattle.line_sender.specs.declared.SendStop.TheVariants as stops
 use Rattle.top_words.specs.declared.status.Status.{Status}
 use Rattle.top_words.specs.declared.status.Status.TheVariants.{Done, Usage, OutOfMemory, ReadFault, WriteFault, FileTooBig, Elf, Flow, TooManyBlocks}
 
@@ -159,12 +157,6 @@ Decides words file status old new = SaysOf words file status old new
 abbrev pub AreSameFor : Ask → List ℕ → List ℕ → Type 0
 AreSameFor (Report ask) text other = AreAlikeTexts text other
 AreSameFor Graph text other = text ≡ other
-
--- the end of a sending, as a status
-abbrev pub sent_as : Result (Unit {0}) SendStop → Result (Unit {0}) Status
-sent_as (Ok done) = Ok done
-sent_as (Err stops.Failed) = Err WriteFault
-sent_as (Err stops.OutOfMemory) = Err OutOfMemory
 
 -- the verdicts of nodes or why there are none, as a status
 abbrev pub settled_as : {V : Type 0} → Result V VerdictsFault → Result V Status

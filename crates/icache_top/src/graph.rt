@@ -1,13 +1,14 @@
 // The text of a program's graph, line by line.
 ghost use Rattle.std.specs.Prelude.{◌≡◌, ◌<◌, length, slice_get, Some, OnOk, OnErr};
 ghost use Rattle.std.specs.Io.KnownBytes.{Appends};
+ghost use Rattle.byte_port.specs.Count.{CountsFaults};
 ghost use Rattle.byte_port.specs.Stream.{SendsPrefix};
-ghost use Rattle.line_sender.specs.Pending.{CountsSend, CountsSendRefusals, WritesBy};
+ghost use Rattle.line_sender.specs.Pending.{MayRefuse, WritesBy};
 ghost use Rattle.icache_top.specs.GraphLines.{graph_lines_of, graph_text_of};
 
-use byte_port::Sink;
+use byte_port::{Sink, SinkFault};
 use call_expand::Expanded;
-use line_sender::{PIECE, SendStop, finish, send_graph_line};
+use line_sender::{PIECE, finish, send_graph_line};
 use std::alloc::Global;
 use verdict_report::GraphLine;
 
@@ -16,12 +17,12 @@ pub(crate) fn send_graph<O: Sink>(
     alloc: Global,
     out: &mut O,
     expanded: &Expanded,
-) -> Result<(), SendStop>
+) -> Result<(), SinkFault>
     requires { length expanded.now.configurations ≡ length expanded.now.nodes }
     ensures whole { OnOk result (Appends (O.sent out.old) (O.sent out.new) (graph_text_of expanded.now)) }
     ensures part { OnErr result (SendsPrefix (O.sent out.old) (O.sent out.new) (graph_text_of expanded.now)) }
-    ensures faults { CountsSend result (O.faults out.old) (O.faults out.new) }
-    ensures refusals { CountsSendRefusals result (O.refusals out.old) (O.refusals out.new) }
+    ensures faults { CountsFaults result (O.faults out.old) (O.faults out.new) }
+    ensures refusals { MayRefuse result (O.refusals out.old) (O.refusals out.new) }
     ensures writes { WritesBy O.writes result out.old out.new }
 {
     let mut buffer = Vec::with_capacity(alloc, PIECE)?;

@@ -1,15 +1,16 @@
 // The report of a program, line by line.
 ghost use Rattle.std.specs.Prelude.{◌<◌, Some, IfOk, OnOk, OnErr};
+ghost use Rattle.byte_port.specs.Count.{CountsFaults};
 ghost use Rattle.byte_port.specs.Stream.{SendsPrefix};
 ghost use Rattle.std.specs.Io.KnownBytes.{Appends};
-ghost use Rattle.line_sender.specs.Pending.{Pending, CountsSend, CountsSendRefusals, WritesBy};
+ghost use Rattle.line_sender.specs.Pending.{MayRefuse, Pending, WritesBy};
 ghost use Rattle.report_plan.specs.Kept.{IsPlanOf};
 ghost use Rattle.icache_top.specs.Lines.{AreFound, StandsAt, SendsAll, SendsNext, SendsPart, left_from};
 
-use byte_port::Sink;
+use byte_port::{Sink, SinkFault};
 use call_expand::Expanded;
 use elf_image::Image;
-use line_sender::{PIECE, SendStop, finish, send_line};
+use line_sender::{PIECE, finish, send_line};
 use report_plan::Plan;
 use std::alloc::Global;
 use verdict_report::Verdict;
@@ -29,14 +30,14 @@ pub(crate) fn send_report<O: Sink>(
     out: &mut O,
     found: &Findings,
     contexts: bool,
-) -> Result<(), SendStop>
+) -> Result<(), SinkFault>
     requires { AreFound found.now.image.now found.now.expanded.now found.now.verdicts.now }
     ensures whole { OnOk result (SendsAll contexts found.now.image.now found.now.expanded.now found.now.verdicts.now
         (Appends (O.sent out.old) (O.sent out.new))) }
     ensures part { OnErr result (SendsAll contexts found.now.image.now found.now.expanded.now found.now.verdicts.now
         (SendsPrefix (O.sent out.old) (O.sent out.new))) }
-    ensures faults { CountsSend result (O.faults out.old) (O.faults out.new) }
-    ensures refusals { CountsSendRefusals result (O.refusals out.old) (O.refusals out.new) }
+    ensures faults { CountsFaults result (O.faults out.old) (O.faults out.new) }
+    ensures refusals { MayRefuse result (O.refusals out.old) (O.refusals out.new) }
     ensures writes { WritesBy O.writes result out.old out.new }
 {
     let plan = Plan::new(alloc, found.expanded)?;
@@ -57,7 +58,7 @@ fn send_from<O: Sink>(
     plan: &Plan,
     contexts: bool,
     from: u32,
-) -> Result<Option<u32>, SendStop>
+) -> Result<Option<u32>, SinkFault>
     requires plan { IsPlanOf found.now.expanded.now.nodes plan.now }
     requires found { AreFound found.now.image.now found.now.expanded.now found.now.verdicts.now }
     ensures order { IfOk result (λ next. left_from next < left_from (Some from)) }
@@ -67,8 +68,8 @@ fn send_from<O: Sink>(
     ensures part { OnErr result
         (SendsPart (StandsAt contexts found.now.image.now found.now.expanded.now found.now.verdicts.now) from
         (SendsPrefix (O.sent out.old) (O.sent out.new)) buffer.old.items) }
-    ensures faults { CountsSend result (O.faults out.old) (O.faults out.new) }
-    ensures refusals { CountsSendRefusals result (O.refusals out.old) (O.refusals out.new) }
+    ensures faults { CountsFaults result (O.faults out.old) (O.faults out.new) }
+    ensures refusals { MayRefuse result (O.refusals out.old) (O.refusals out.new) }
     ensures writes { WritesBy O.writes result out.old out.new }
 {
     let Findings {

@@ -6,7 +6,7 @@ ghost use Rattle.top_words.specs.Views.{bytes_of};
 ghost use Rattle.top_words.specs.FaultText.{fault_text};
 ghost use Rattle.top_words.specs.Status.{KeepsMemoryApart};
 ghost use Rattle.report_lines.specs.Findings.{IsWithin};
-ghost use Rattle.icache_top.specs.Answer.{Answers, CountsOut, CountsOutRefusals, CountsSource, Decides, ReadsFor, SaysOf, SaysOfProgram, Tells, WritesFor, sent_as, settled_as, status_of, file_limit};
+ghost use Rattle.icache_top.specs.Answer.{Answers, CountsOut, CountsOutRefusals, CountsSource, Decides, ReadsFor, SaysOf, SaysOfProgram, Tells, WritesFor, settled_as, status_of, file_limit};
 
 use crate::graph::send_graph;
 use crate::report::{Findings, send_report};
@@ -15,7 +15,6 @@ use byte_port::{Sink, Source, read_all};
 use call_expand::expand;
 use command_spec::{Ask, ReportAsk, Settings};
 use elf_image::Image;
-use line_sender::SendStop;
 use node_verdicts::{VerdictsFault, node_verdicts};
 use std::alloc::Global;
 use std::thread::Threads;
@@ -157,7 +156,8 @@ fn classify<O: Sink>(
         expanded: &expanded,
         verdicts: &verdicts,
     };
-    sent(send_report(alloc, out, &found, ask.contexts))
+    send_report(alloc, out, &found, ask.contexts)?;
+    Ok(())
 }
 
 /// Sends the text of a program's graph.
@@ -170,7 +170,8 @@ fn graph<O: Sink>(alloc: Global, out: &mut O, image: &Image, entry: u32) -> Resu
     ensures memory { KeepsMemoryApart (status_of result) }
 {
     let expanded = expand(alloc, image, entry)?;
-    sent(send_graph(alloc, out, &expanded))
+    send_graph(alloc, out, &expanded)?;
+    Ok(())
 }
 
 /// The verdicts that were found, or why there are none, as a status.
@@ -183,16 +184,5 @@ fn settled(found: Result<Vec<Verdict>, VerdictsFault>) -> Result<Vec<Verdict>, S
             Err(Status::TooManyBlocks { set, count })
         }
         Err(VerdictsFault::OutOfMemory) => Err(Status::OutOfMemory),
-    }
-}
-
-/// How a sending ended, as a status.
-fn sent(sending: Result<(), SendStop>) -> Result<(), Status>
-    ensures { result ≡ sent_as sending }
-{
-    match sending {
-        Ok(()) => Ok(()),
-        Err(SendStop::Failed) => Err(Status::WriteFault),
-        Err(SendStop::OutOfMemory) => Err(Status::OutOfMemory),
     }
 }

@@ -10,8 +10,6 @@ use Rattle.byte_port.specs.Calls.{MovesSome}
 use Rattle.byte_port.specs.declared.SinkFault.{SinkFault}
 use Rattle.byte_port.specs.declared.SinkFault.TheVariants as faults
 use Rattle.byte_port.proofs.Moves.{MovesSome-trans, EndsWith-after}
-use Rattle.line_sender.specs.declared.SendStop.{SendStop}
-use Rattle.line_sender.specs.declared.SendStop.TheVariants as stops
 use Rattle.line_sender.specs.Pending.{Pending, WritesBy}
 
 -- before anything is sent, the buffer alone is pending: at the beginning of a report, nothing
@@ -88,10 +86,10 @@ SendsPrefix-line a b c buffer text line before part =
     SendsPrefix-pending a b c (buffer ++ line) (text ++ line) (Pending-more a b buffer text line before) part
 
 -- writes, and then a sending
-pub WritesBy-after : {P T : Type 0} (writes : P → Result ℕ SinkFault → P → Type 0) (r : Result T SendStop) (a b c : P)
+pub WritesBy-after : {P T : Type 0} (writes : P → Result ℕ SinkFault → P → Type 0) (r : Result T SinkFault) (a b c : P)
     → MovesSome writes a b → WritesBy writes r b c → WritesBy writes r a c
 WritesBy-after writes (Ok value) a b c before next = MovesSome-trans writes a b c before next
-WritesBy-after writes (Err stops.Failed) a b c before next = EndsWith-after writes (Err faults.Failed) a b c before next
-WritesBy-after writes (Err stops.OutOfMemory) a b c before (inl next) = inl (MovesSome-trans writes a b c before next)
-WritesBy-after writes (Err stops.OutOfMemory) a b c before (inr next) =
+WritesBy-after writes (Err faults.Failed) a b c before next = EndsWith-after writes (Err faults.Failed) a b c before next
+WritesBy-after writes (Err faults.OutOfMemory) a b c before (inl next) = inl (MovesSome-trans writes a b c before next)
+WritesBy-after writes (Err faults.OutOfMemory) a b c before (inr next) =
     inr (EndsWith-after writes (Err faults.OutOfMemory) a b c before next)

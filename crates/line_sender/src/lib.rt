@@ -10,14 +10,15 @@
 ghost use Rattle.std.specs.Prelude.{◌≡◌, ◌<◌, ◌++◌, [], length, vec_capacity, IsTrue, IsOk, OnOk, OnErr};
 ghost use Rattle.std.specs.List.{list_all};
 ghost use Rattle.std.specs.Io.KnownBytes.{Appends};
+ghost use Rattle.byte_port.specs.Count.{CountsFaults};
 ghost use Rattle.byte_port.specs.Stream.{SendsPrefix};
 ghost use Rattle.report_spec.specs.Graph.{graph_line_text};
 ghost use Rattle.report_spec.specs.Text.{line_text, text_of};
 ghost use Rattle.report_spec.specs.Valid.{is_valid};
-ghost use Rattle.line_sender.specs.Pending.{Pending, CountsSend, CountsSendRefusals, WritesBy};
+ghost use Rattle.line_sender.specs.Pending.{MayRefuse, Pending, WritesBy};
 
 use byte_port::{Sink, SinkFault, send_all};
-use std::alloc::{AllocError, Global};
+use std::alloc::Global;
 use verdict_report::{GraphLine, Line, write_graph_line, write_line};
 
 #[cfg(test)]
@@ -26,43 +27,9 @@ mod tests;
 /// How many bytes are gathered before they are handed on.
 pub const PIECE: usize = 65536;
 
-/// Why sending stopped.
-#[derive(Clone, Copy, Debug, PartialEq, Eq)]
-pub enum SendStop {
-    /// The sink failed. Its count of faults rose.
-    Failed,
-    /// No memory was left, for the buffer or for the sink.
-    OutOfMemory,
-}
-
-impl From<SinkFault> for SendStop {
-    ghost use Rattle.line_sender.specs.Pending.{stop_of};
-    ghost use Rattle.std.specs.Prelude.{◌≡◌};
-
-    ghost from_gives = { λ fault stop. stop ≡ stop_of fault };
-
-    fn from(fault: SinkFault) -> Self {
-        match fault {
-            SinkFault::Failed => SendStop::Failed,
-            SinkFault::OutOfMemory => SendStop::OutOfMemory,
-        }
-    }
-}
-
-impl From<AllocError> for SendStop {
-    ghost use Rattle.std.specs.Prelude.{◌≡◌};
-    ghost use Rattle.line_sender.specs.declared.SendStop.TheVariants as stops;
-
-    ghost from_gives = { λ _ stop. stop ≡ stops.OutOfMemory };
-
-    fn from(_: AllocError) -> Self {
-        SendStop::OutOfMemory
-    }
-}
-
 /// Adds the text of a valid line to what the buffer has, and hands the buffer on once it has a piece.
-/// After an error a front of that was sent, and the buffer is of no more use.
-pub fn send_line<O: Sink>(out: &mut O, buffer: &mut Vec<u8>, line: &Line) -> Result<(), SendStop>
+/// After an error a prefix of that was sent, and the buffer is of no more use.
+pub fn send_line<O: Sink>(out: &mut O, buffer: &mut Vec<u8>, line: &Line) -> Result<(), SinkFault>
     requires { IsTrue (is_valid line.now) }
     ensures pending { OnOk result (Pending (O.sent out.old) (O.sent out.new) buffer.new.items (buffer.old.items ++ line_text line.now)) }
     ensures part { OnErr result (SendsPrefix (O.sent out.old) (O.sent out.new) (buffer.old.items ++ line_text line.now)) }
@@ -70,8 +37,8 @@ pub fn send_line<O: Sink>(out: &mut O, buffer: &mut Vec<u8>, line: &Line) -> Res
     // Less than a piece is left in the buffer, and less than a piece is not sent.
     ensures below_piece { OnOk result (length buffer.new.items < PIECE) }
     ensures held { length (buffer.old.items ++ line_text line.now) < PIECE → out.new ≡ out.old }
-    ensures faults { CountsSend result (O.faults out.old) (O.faults out.new) }
-    ensures refusals { CountsSendRefusals result (O.refusals out.old) (O.refusals out.new) }
+    ensures faults { CountsFaults result (O.faults out.old) (O.faults out.new) }
+    ensures refusals { MayRefuse result (O.refusals out.old) (O.refusals out.new) }
     ensures writes { WritesBy O.writes result out.old out.new }
 {
     write_line(line, buffer)?;
@@ -79,18 +46,18 @@ pub fn send_line<O: Sink>(out: &mut O, buffer: &mut Vec<u8>, line: &Line) -> Res
 }
 
 /// Adds the text of a line of the graph to what the buffer has, and hands the buffer on once it has a piece.
-/// After an error a front of that was sent, and the buffer is of no more use.
+/// After an error a prefix of that was sent, and the buffer is of no more use.
 pub fn send_graph_line<O: Sink>(
     out: &mut O,
     buffer: &mut Vec<u8>,
     line: &GraphLine,
-) -> Result<(), SendStop>
+) -> Result<(), SinkFault>
     ensures pending { OnOk result (Pending (O.sent out.old) (O.sent out.new) buffer.new.items (buffer.old.items ++ graph_line_text line.now)) }
     ensures part { OnErr result (SendsPrefix (O.sent out.old) (O.sent out.new) (buffer.old.items ++ graph_line_text line.now)) }
     ensures below_piece { OnOk result (length buffer.new.items < PIECE) }
     ensures held { length (buffer.old.items ++ graph_line_text line.now) < PIECE → out.new ≡ out.old }
-    ensures faults { CountsSend result (O.faults out.old) (O.faults out.new) }
-    ensures refusals { CountsSendRefusals result (O.refusals out.old) (O.refusals out.new) }
+    ensures faults { CountsFaults result (O.faults out.old) (O.faults out.new) }
+    ensures refusals { MayRefuse result (O.refusals out.old) (O.refusals out.new) }
     ensures writes { WritesBy O.writes result out.old out.new }
 {
     write_graph_line(line, buffer)?;
@@ -98,13 +65,13 @@ pub fn send_graph_line<O: Sink>(
 }
 
 /// Hands the buffer on where it has a piece.
-fn hand_on<O: Sink>(out: &mut O, buffer: &mut Vec<u8>) -> Result<(), SendStop>
+fn hand_on<O: Sink>(out: &mut O, buffer: &mut Vec<u8>) -> Result<(), SinkFault>
     ensures pending { OnOk result (Pending (O.sent out.old) (O.sent out.new) buffer.new.items buffer.old.items) }
     ensures part { OnErr result (SendsPrefix (O.sent out.old) (O.sent out.new) buffer.old.items) }
     ensures below_piece { OnOk result (length buffer.new.items < PIECE) }
     ensures held { length buffer.old.items < PIECE → (out.new ≡ out.old) × IsOk result }
-    ensures faults { CountsSend result (O.faults out.old) (O.faults out.new) }
-    ensures refusals { CountsSendRefusals result (O.refusals out.old) (O.refusals out.new) }
+    ensures faults { CountsFaults result (O.faults out.old) (O.faults out.new) }
+    ensures refusals { MayRefuse result (O.refusals out.old) (O.refusals out.new) }
     ensures writes { WritesBy O.writes result out.old out.new }
 {
     if buffer.len() < PIECE {
@@ -114,14 +81,14 @@ fn hand_on<O: Sink>(out: &mut O, buffer: &mut Vec<u8>) -> Result<(), SendStop>
 }
 
 /// Hands on what the buffer has, which then is empty and keeps its room.
-/// After an error a front of that was sent, and the buffer is of no more use.
-pub fn finish<O: Sink>(out: &mut O, buffer: &mut Vec<u8>) -> Result<(), SendStop>
+/// After an error a prefix of that was sent, and the buffer is of no more use.
+pub fn finish<O: Sink>(out: &mut O, buffer: &mut Vec<u8>) -> Result<(), SinkFault>
     ensures whole { OnOk result (Appends (O.sent out.old) (O.sent out.new) buffer.old.items) }
     ensures empty { OnOk result (buffer.new.items ≡ []) }
     ensures room { OnOk result (vec_capacity buffer.new ≡ vec_capacity buffer.old) }
     ensures part { OnErr result (SendsPrefix (O.sent out.old) (O.sent out.new) buffer.old.items) }
-    ensures faults { CountsSend result (O.faults out.old) (O.faults out.new) }
-    ensures refusals { CountsSendRefusals result (O.refusals out.old) (O.refusals out.new) }
+    ensures faults { CountsFaults result (O.faults out.old) (O.faults out.new) }
+    ensures refusals { MayRefuse result (O.refusals out.old) (O.refusals out.new) }
     ensures writes { WritesBy O.writes result out.old out.new }
 {
     send_all(out, buffer)?;
@@ -129,13 +96,13 @@ pub fn finish<O: Sink>(out: &mut O, buffer: &mut Vec<u8>) -> Result<(), SendStop
     Ok(())
 }
 
-/// Sends valid lines, one after another. After an error the sink has a front of their text.
-pub fn send_lines<O: Sink>(alloc: Global, out: &mut O, lines: &[Line]) -> Result<(), SendStop>
+/// Sends valid lines, one after another. After an error the sink has a prefix of their text.
+pub fn send_lines<O: Sink>(alloc: Global, out: &mut O, lines: &[Line]) -> Result<(), SinkFault>
     requires { IsTrue (list_all is_valid lines.now) }
     ensures whole { OnOk result (Appends (O.sent out.old) (O.sent out.new) (text_of lines.now)) }
     ensures part { OnErr result (SendsPrefix (O.sent out.old) (O.sent out.new) (text_of lines.now)) }
-    ensures faults { CountsSend result (O.faults out.old) (O.faults out.new) }
-    ensures refusals { CountsSendRefusals result (O.refusals out.old) (O.refusals out.new) }
+    ensures faults { CountsFaults result (O.faults out.old) (O.faults out.new) }
+    ensures refusals { MayRefuse result (O.refusals out.old) (O.refusals out.new) }
     ensures writes { WritesBy O.writes result out.old out.new }
 {
     let mut buffer = Vec::with_capacity(alloc, PIECE)?;

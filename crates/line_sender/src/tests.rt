@@ -60,12 +60,12 @@ fn a_short_report_is_sent_at_its_end(rt: HostRuntime) -> Result<(), Fail> {
 }
 
 #[test]
-fn a_full_writer_has_a_front_of_the_text(rt: HostRuntime) -> Result<(), Fail> {
+fn a_full_writer_has_a_prefix_of_the_text(rt: HostRuntime) -> Result<(), Fail> {
     let lines = [hit(0x10000), hit(0x10004), hit(0x10008)];
     let mut room = [0u8; 30];
     let mut sink = WritePort::new(Cursor::new(room.as_mut_slice()));
     let result = send_lines(rt.alloc(), &mut sink, &lines);
-    assert_eq!(rt; result, Err(SendStop::Failed));
+    assert_eq!(rt; result, Err(SinkFault::Failed));
     assert_eq!(rt; room.as_slice(), &TEXT.as_bytes()[..30]);
     Ok(())
 }

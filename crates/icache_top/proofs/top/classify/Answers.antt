@@ -1,13 +1,11 @@
-use Rattle.std.proofs.Common.{◌≡◌, sym, ◌∙◌, subst, length, List}
-use Rattle.std.specs.Prelude.{Ok, IfErr}
+use Rattle.std.proofs.Common.{◌≡◌, sym, ◌∙◌, subst, List}
+use Rattle.std.specs.Prelude.{IfErr}
+use Rattle.std.specs.Io.KnownBytes.{Appends}
+use Rattle.byte_port.specs.Stream.{SendsPrefix}
 use Rattle.path_model.specs.declared.graph.Node.{Node}
-use Rattle.report_spec.specs.declared.line.Verdict.{Verdict}
-use Rattle.focus_spec.specs.Blocks.{HaveFewInAll}
-use Rattle.node_verdicts.specs.Verdicts.{AreRight, IsFault}
-use Rattle.path_model.specs.Graph.{addresses_of as node_addresses}
-use Rattle.report_lines.specs.Findings.{AreFindings}
-use Rattle.icache_top.proofs.Told.{flow_told, settled_told, handed_on}
-use Rattle.icache_top.proofs.Reported.{many, findings, report_told, settled_ok, ok_at, err_weaker}
+use Rattle.node_verdicts.specs.Verdicts.{IsFault}
+use Rattle.icache_top.proofs.Told.{flow_told, settled_told, sent_told, handed_on}
+use Rattle.icache_top.proofs.Reported.{many, found_now, wanted_now, err_weaker}
 use Rattle.icache_top.proofs.top.classify.Goals as goal
 
 pub returns-in_err-expanded-clause-told : goal.returns-in_err-expanded-clause-told
@@ -26,35 +24,29 @@ returns-in_err-verdicts-clause-told g c =
     c.in_ok-expanded.ensures.accepted c.in_ok-expanded.ensures.graph) c.node_verdicts.result fault))
 
 pub send_report-requires : goal.send_report-requires
-send_report-requires g c =
-    let ask = c.args.ask.now in
-    let nodes = c.graph.result.now in
-    let was : c.node_verdicts.result ≡ Ok c.in_ok-verdicts.verdicts =
-    settled_ok c.node_verdicts.result c.in_ok-verdicts.verdicts (sym c.settled.ensures ∙ c.in_ok-verdicts.was) in
-    let one_each = ok_at (λ v. length v.items ≡ length nodes) c.node_verdicts.result c.in_ok-verdicts.verdicts was c.node_verdicts.ensures.one_each in
-    let right = ok_at (λ v. AreRight nodes ask.geometry v.items) c.node_verdicts.result c.in_ok-verdicts.verdicts was c.node_verdicts.ensures.right in
-    let found = findings c.args.image.now c.args.entry ask c.in_ok-expanded.expanded c.in_ok-expanded.ensures.accepted
-    c.in_ok-expanded.ensures.graph nodes c.in_ok-verdicts.verdicts.items c.graph.ensures.same c.requires one_each right in (
-      c.args.entry,
-      ask.geometry,
-      subst (λ (now : List Verdict). AreFindings c.args.image.now c.args.entry ask.geometry c.in_ok-expanded.expanded.configurations c.in_ok-expanded.expanded.nodes now)
-          (sym c.deref.ensures.value) found,
-    )
+send_report-requires g c = (
+  c.args.entry,
+  c.args.ask.now.geometry,
+  found_now c.args.image.now c.args.entry c.args.ask.now c.in_ok-expanded.expanded c.in_ok-expanded.ensures.accepted
+      c.in_ok-expanded.ensures.graph (λ v. v.items) c.graph.result.now c.node_verdicts.result c.in_ok-verdicts.verdicts c.deref.result.now
+      (sym c.settled.ensures ∙ c.in_ok-verdicts.was) c.deref.ensures.value c.graph.ensures.same c.requires
+      c.node_verdicts.ensures.one_each c.node_verdicts.ensures.right,
+)
+
+pub returns-in_err-send_report-clause-told : goal.returns-in_err-send_report-clause-told
+returns-in_err-send_report-clause-told g c =
+    let (text, is_wanted, part) = wanted_now c.args.image.now c.args.entry c.args.ask.now c.in_ok-expanded.expanded
+    c.in_ok-expanded.ensures.accepted c.in_ok-expanded.ensures.graph (λ v. v.items) c.graph.result.now c.node_verdicts.result
+    c.in_ok-verdicts.verdicts c.deref.result.now (sym c.settled.ensures ∙ c.in_ok-verdicts.was) c.deref.ensures.value c.graph.ensures.same
+    c.requires c.node_verdicts.ensures.one_each c.node_verdicts.ensures.right c.node_verdicts.ensures.few
+    (SendsPrefix (g.O.Sink.sent c.args.out.now) (g.O.Sink.sent c.send_report.new.out)) c.in_err-send_report.ensures.part in
+    sent_told _ _ _ _ _ text c.in_err-send_report.field-0.0 c.from_residual-in_err-send_report.result is_wanted part
+    c.from_residual-in_err-send_report.ensures.1
 
 pub returns-clause-told : goal.returns-clause-told
 returns-clause-told g c =
-    let ask = c.args.ask.now in
-    let nodes = c.graph.result.now in
-    let was : c.node_verdicts.result ≡ Ok c.in_ok-verdicts.verdicts =
-    settled_ok c.node_verdicts.result c.in_ok-verdicts.verdicts (sym c.settled.ensures ∙ c.in_ok-verdicts.was) in
-    let one_each = ok_at (λ v. length v.items ≡ length nodes) c.node_verdicts.result c.in_ok-verdicts.verdicts was c.node_verdicts.ensures.one_each in
-    let right = ok_at (λ v. AreRight nodes ask.geometry v.items) c.node_verdicts.result c.in_ok-verdicts.verdicts was c.node_verdicts.ensures.right in
-    let few = ok_at (λ v. HaveFewInAll (node_addresses nodes) ask.geometry) c.node_verdicts.result c.in_ok-verdicts.verdicts was c.node_verdicts.ensures.few in
-    let found = findings c.args.image.now c.args.entry ask c.in_ok-expanded.expanded c.in_ok-expanded.ensures.accepted
-    c.in_ok-expanded.ensures.graph nodes c.in_ok-verdicts.verdicts.items c.graph.ensures.same c.requires one_each right in
-    report_told c.args.image.now c.args.entry ask c.in_ok-expanded.expanded c.in_ok-expanded.ensures.accepted
-    c.in_ok-expanded.ensures.graph c.deref.result.now
-    (subst (λ (now : List Verdict). AreFindings c.args.image.now c.args.entry ask.geometry c.in_ok-expanded.expanded.configurations c.in_ok-expanded.expanded.nodes now)
-    (sym c.deref.ensures.value) found)
-    (subst (λ (ns : List Node). HaveFewInAll (node_addresses ns) ask.geometry) c.graph.ensures.same few)
-    _ _ _ _ c.send_report.result c.sent.result c.sent.ensures c.send_report.ensures.whole c.send_report.ensures.part
+    wanted_now c.args.image.now c.args.entry c.args.ask.now c.in_ok-expanded.expanded c.in_ok-expanded.ensures.accepted
+    c.in_ok-expanded.ensures.graph (λ v. v.items) c.graph.result.now c.node_verdicts.result c.in_ok-verdicts.verdicts c.deref.result.now
+    (sym c.settled.ensures ∙ c.in_ok-verdicts.was) c.deref.ensures.value c.graph.ensures.same c.requires
+    c.node_verdicts.ensures.one_each c.node_verdicts.ensures.right c.node_verdicts.ensures.few
+    (Appends (g.O.Sink.sent c.args.out.now) (g.O.Sink.sent c.send_report.new.out)) c.in_ok-send_report.ensures.whole
