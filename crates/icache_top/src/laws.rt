@@ -4,9 +4,9 @@ ghost use Rattle.command_spec.specs.declared.settings.Settings.{Settings};
 ghost use Rattle.top_words.specs.declared.status.Status.{Status};
 ghost use Rattle.icache_top.specs.Answer.{AreSameFor, Decides, IsAnswerOf};
 
-/// Where the words give settings, the file is told and no port fails, all runs on them end alike, but for want of
-/// memory: with one status, and at `Done` with texts that differ in the ways of unknown lines alone. How a source cuts
-/// its bytes, and a sink what it takes, changes nothing else.
+/// Where the arguments give settings, the file is known and no port fails, all runs on them end alike, unless memory runs
+/// out: with one status, and at `Done` with texts that differ in the ways of unknown lines alone. How a source cuts its
+/// bytes, and how many a sink takes at a time, changes nothing else.
 pub fn answer_laws()
     ensures status { (words : List (List ℕ)) (file : List ℕ) (status other : Status) (old new before now : Option (List ℕ))
         → Decides words file status old new → Decides words file other before now

@@ -8,18 +8,12 @@
 
 mod gate;
 mod graph;
-#[cfg(test)]
-mod graphs;
-#[cfg(test)]
-mod hostile;
 mod laws;
 mod outcome;
 mod report;
 #[cfg(test)]
 mod tests;
 mod top;
-#[cfg(test)]
-mod verdicts;
 
 pub use gate::{Gate, IdleGate};
 pub use laws::answer_laws;

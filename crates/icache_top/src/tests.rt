@@ -9,6 +9,10 @@ use std::process::Abort;
 use std::test::Fail;
 use std::thread::Threads;
 
+mod graphs;
+mod hostile;
+mod reports;
+
 /// The file up to the program header's sizes.
 const START: [u8; 68] = [
     0x7f, 0x45, 0x4c, 0x46, 1, 1, 1, 0, 0, 0, 0, 0, 0, 0, 0, 0, 2, 0, 0xf3, 0, 1, 0, 0, 0, 0, 0, 1,

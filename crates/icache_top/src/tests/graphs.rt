@@ -5,7 +5,8 @@ use flow_spec::FlowFault;
 use std::alloc::{AllocError, Global};
 use std::test::Fail;
 
-/// The words that aren't plain of a jump into a loop of two ways, both of which come back by way of 0x10010.
+/// The instructions, by offset; all other words are `nop`s. A jump leads into a loop, both branches of which come back
+/// through 0x10010.
 const TWO_WAYS: [(usize, u32); 9] = [
     (0x00, 0x0080006f),
     (0x04, 0x00100073),

@@ -1,5 +1,5 @@
 // The reports of programs that are classified.
-use crate::graphs::{doubling, two_ways};
+use crate::tests::graphs::{doubling, two_ways};
 use crate::tests::{SMALL, check, nops, run_on, words_of, wrap};
 use crate::{IdleGate, Status, run};
 use byte_port::{MemSink, SureSink, SureSource};
