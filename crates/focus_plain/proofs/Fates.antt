@@ -10,6 +10,7 @@ use Rattle.transition_spec.specs.Named.{Names}
 use Rattle.cache_spec.specs.Contents.{ends_in_hit}
 use Rattle.path_model.specs.Graph.{graph_step, address_of}
 use Rattle.path_trail.specs.Trail.{TrailEntry, node_at, earlier_at, IsChain}
+use Rattle.path_trail.specs.Ways.{IsWayOf}
 use Rattle.focus_spec.specs.Younger.{is_small, fetch_at}
 use Rattle.focus_spec.specs.Focus.{younger_after}
 use Rattle.focus_spec.specs.Fate.{AllEnd, NamesEnd}
@@ -18,7 +19,6 @@ use Rattle.focus_plain.specs.declared.search.Entry.{Entry}
 use Rattle.focus_plain.specs.declared.ends.Found.{Found}
 use Rattle.focus_plain.specs.Cut.{IsBelow, left_by}
 use Rattle.focus_plain.specs.Entries.{set_at, trail_of, seen_of, seen_at, latest_at, place_of, IsSpread}
-use Rattle.focus_plain.specs.Ways.{IsWayOf}
 use Rattle.focus_plain.specs.Ends.{AreEnds, IsFound}
 use Rattle.focus_plain.proofs.Order.{small-cut}
 use Rattle.focus_plain.proofs.Course.{paths_between}

@@ -2,11 +2,11 @@ pub use Rattle.set_view.specs.View
 pub use Rattle.focus_values.specs.Exact
 pub use Rattle.focus_spec.specs.Fate
 pub use Rattle.path_trail.specs.Trail
+pub use Rattle.path_trail.specs.Ways
 pub use Rattle.transition_spec.specs.Named
 pub mod Cut
 pub mod Entries
 pub mod Search
-pub mod Ways
 pub mod Ends
 pub mod Judged
 pub mod Settled

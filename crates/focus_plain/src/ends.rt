@@ -1,13 +1,10 @@
 // Where a search found hits and misses.
 ghost use Rattle.std.specs.Prelude.{◌≡◌, ◌<◌, ◌^◌, ℕ, length, Some, IfOk};
-ghost use Rattle.path_trail.specs.Trail.{node_at, IsTrail};
+ghost use Rattle.path_trail.specs.Trail.{node_at};
 ghost use Rattle.focus_plain.specs.Entries.{trail_of};
 ghost use Rattle.focus_plain.specs.Ends.{AreEnds, IsNoted, IsFound};
-ghost use Rattle.focus_plain.specs.Ways.{IsWayOf};
 
 use crate::search::{Entry, Search, find_entries};
-use path_model::{Graph, choices_of};
-use path_trail::{Choices, Way, trace};
 use set_view::SetView;
 use std::alloc::{AllocError, Global};
 
@@ -69,23 +66,4 @@ fn note(ends: &mut [Option<u32>], node: u32, number: u32)
     if end.is_none() {
         *end = Some(number);
     }
-}
-
-/// The way of the path that an entry stands for. An error is want of memory.
-pub(crate) fn way_of(
-    alloc: Global,
-    graph: &Graph,
-    search: &Search,
-    entry: u32,
-) -> Result<Way, AllocError>
-    requires trail { IsTrail graph.now (trail_of search.now.entries.items) }
-    requires inside { entry < length search.now.entries.items }
-    ensures { IfOk result (λ way. IsWayOf graph.now (trail_of search.now.entries.items) entry way) }
-{
-    let path = trace(alloc, graph, search, entry)?;
-    let letters = choices_of(alloc, graph, &path)?;
-    Ok(Way {
-        steps: path.len() as u64,
-        choices: Choices::from_letters(letters),
-    })
 }

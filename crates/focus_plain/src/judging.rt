@@ -6,8 +6,8 @@ ghost use Rattle.set_view.specs.View.{IsView};
 ghost use Rattle.focus_plain.specs.Ends.{IsFound};
 ghost use Rattle.focus_plain.specs.Judged.{AreFetchers, IsClassification};
 
-use crate::ends::{Found, find, way_of};
-use path_trail::Way;
+use crate::ends::{Found, find};
+use path_trail::{Way, way_of};
 use set_view::{SetView, view_laws};
 use std::alloc::{AllocError, Global};
 

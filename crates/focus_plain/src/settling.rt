@@ -8,9 +8,9 @@ ghost use Rattle.focus_plain.specs.Ends.{IsFound};
 ghost use Rattle.focus_plain.specs.Judged.{AreFetchers, IsEnd};
 ghost use Rattle.focus_plain.specs.Settled.{IsFate, IsPlainPlace, AreAlike};
 
-use crate::ends::{Found, find, way_of};
+use crate::ends::{Found, find};
 use focus_values::{YoungerSets, younger_sets};
-use path_trail::Way;
+use path_trail::{Way, way_of};
 use plain_family::PlainFamily;
 use set_view::{SetView, view_laws};
 use std::alloc::{AllocError, Global};

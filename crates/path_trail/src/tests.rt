@@ -1,4 +1,4 @@
-use crate::{Trail, trace};
+use crate::{Trail, trace, way_of};
 use path_model::{Graph, Node};
 use std::test::Fail;
 
@@ -26,7 +26,9 @@ impl Trail for Rounds {
 }
 
 #[test]
-fn the_path_of_an_entry_begins_at_node_0_and_ends_at_its_node(rt: HostRuntime) -> Result<(), Fail> {
+fn an_entry_has_the_path_to_its_node_and_the_way_that_names_it(
+    rt: HostRuntime,
+) -> Result<(), Fail> {
     let alloc = rt.alloc();
     let nodes = [
         Node {
@@ -58,5 +60,8 @@ fn the_path_of_an_entry_begins_at_node_0_and_ends_at_its_node(rt: HostRuntime) -
         trace(alloc, &graph, &Rounds, 0)?.as_slice(),
         [0].as_slice()
     );
+    let way = way_of(alloc, &graph, &Rounds, 4)?;
+    assert_eq!(rt; way.steps, 5);
+    assert_eq!(rt; way.choices.letters(), b"tn".as_slice());
     Ok(())
 }

@@ -3,9 +3,11 @@ ghost use Rattle.std.specs.Prelude.{◌≡◌, ◌<◌, length, reverse, Some, I
 ghost use Rattle.transition_spec.specs.Path.{IsPath};
 ghost use Rattle.path_model.specs.Graph.{graph_step};
 ghost use Rattle.path_trail.specs.Trail.{IsTrail, IsChain};
+ghost use Rattle.path_trail.specs.Ways.{IsWayOf};
 
-use path_model::Graph;
+use path_model::{Graph, choices_of};
 use std::alloc::{AllocError, Global};
+use transition_spec::{Choices, Way};
 
 /// Entries by number, each at a node of a graph, and each with the entry before it, if there is one.
 pub trait Trail {
@@ -48,4 +50,25 @@ pub fn trace<T: Trail>(
     }
     path.reverse();
     Ok(path)
+}
+
+/// The way of the path that leads to an entry: its number of members, and its choices.
+///
+/// An error means that it ran out of memory. It takes time and memory in the order of the path's length.
+pub fn way_of<T: Trail>(
+    alloc: Global,
+    graph: &Graph,
+    trail: &T,
+    entry: u32,
+) -> Result<Way, AllocError>
+    requires trail { IsTrail graph.now (T.entries trail.now) }
+    requires inside { entry < length (T.entries trail.now) }
+    ensures { IfOk result (IsWayOf graph.now (T.entries trail.now) entry) }
+{
+    let path = trace(alloc, graph, trail, entry)?;
+    let letters = choices_of(alloc, graph, &path)?;
+    Ok(Way {
+        steps: path.len() as u64,
+        choices: Choices::from_letters(letters),
+    })
 }

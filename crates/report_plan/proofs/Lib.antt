@@ -1,6 +1,6 @@
 pub mod Placed
 pub mod Notes
-pub mod Descent
+pub mod Back
 pub mod Ends
 pub mod Bare
 pub mod Depth

@@ -1,4 +1,6 @@
 pub use Rattle.node_spec.specs.Plan
+pub use Rattle.path_trail.specs.Ways
 pub mod Kept
+pub mod Befores
 pub mod Ending
 pub mod Valid

@@ -7,18 +7,51 @@ ghost use Rattle.node_spec.specs.Plan.{NamesPathTo};
 ghost use Rattle.report_plan.specs.Kept.{AreBefore, AreNoted, noted};
 
 use crate::order::numbers;
-use path_model::{Graph, Node, choices_of};
-use report_spec::{Choices, Way};
+use path_model::{Graph, Node};
+use path_trail::{Trail, way_of};
+use report_spec::Way;
 use std::alloc::{AllocError, Global};
+use std::marker::Model;
 
-/// For each node but the first the number of a smaller one that it follows. Goes over the nodes once.
-pub(crate) fn befores(alloc: Global, nodes: &[Node]) -> Result<Vec<u32>, AllocError>
-    requires { IsGraph nodes.now }
-    ensures { IfOk result (λ before. AreBefore nodes.now before.items) }
-{
-    let mut before = numbers(alloc, nodes.len())?;
-    note_all(&mut before, nodes);
-    Ok(before)
+/// For each node but the first the number of a smaller one that it follows. As a trail it has an entry for each node.
+#[derive(Drop)]
+pub(crate) struct Befores(Vec<u32>);
+
+impl Model for Befores {
+    ghost use Rattle.std.specs.Prelude.{List, ℕ};
+
+    ghost Value = { List ℕ };
+
+    ghost view = { λ before. before.0.items };
+}
+
+impl Befores {
+    /// Those of a graph. Goes over the nodes once.
+    pub(crate) fn new(alloc: Global, nodes: &[Node]) -> Result<Self, AllocError>
+        requires { IsGraph nodes.now }
+        ensures { IfOk result (AreBefore nodes.now) }
+    {
+        let mut before = numbers(alloc, nodes.len())?;
+        note_all(&mut before, nodes);
+        Ok(Befores(before))
+    }
+}
+
+impl Trail for Befores {
+    ghost use Rattle.report_plan.specs.Befores.{entries_of};
+
+    ghost entries = { entries_of };
+
+    fn node(&self, entry: u32) -> u32 {
+        entry
+    }
+
+    fn earlier(&self, entry: u32) -> Option<u32> {
+        if entry == 0 {
+            return None;
+        }
+        Some(self.0[entry as usize])
+    }
 }
 
 // Notes each node at the greater ones that it leads to.
@@ -49,7 +82,7 @@ fn note(before: &mut [u32], from: u32, to: Option<u32>)
 pub(crate) fn way_to(
     alloc: Global,
     graph: &Graph,
-    before: &[u32],
+    before: &Befores,
     node: u32,
 ) -> Result<Way, AllocError>
     requires before { AreBefore graph.now before.now }
@@ -57,17 +90,5 @@ pub(crate) fn way_to(
     ensures names { IfOk result (NamesPathTo graph.now node) }
     ensures valid { IfOk result (λ way. IsTrue (is_valid_way way)) }
 {
-    let mut path = Vec::new(alloc);
-    let mut at = node;
-    path.push(at)?;
-    while at > 0 {
-        at = before[at as usize];
-        path.push(at)?;
-    }
-    path.reverse();
-    let choices = choices_of(alloc, graph, &path)?;
-    Ok(Way {
-        steps: path.len() as u64,
-        choices: Choices::from_letters(choices),
-    })
+    way_of(alloc, graph, before, node)
 }

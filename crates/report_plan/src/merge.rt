@@ -7,7 +7,7 @@ ghost use Rattle.report_plan.specs.Kept.{AreBefore, IsPlanOf};
 ghost use Rattle.report_plan.specs.Ending.{may_end, MayEnd, IsWayOf};
 ghost use Rattle.report_plan.specs.Valid.{AreValid};
 
-use crate::before::way_to;
+use crate::before::{Befores, way_to};
 use crate::copies::copy_way;
 use crate::order::nodes_at;
 use crate::plan::Plan;
@@ -44,7 +44,7 @@ fn first_ending(verdicts: &[Verdict], here: &[u32], hits: bool) -> Option<u32>
 fn way_of(
     alloc: Global,
     graph: &Graph,
-    before: &[u32],
+    before: &Befores,
     verdicts: &[Verdict],
     node: u32,
     hits: bool,

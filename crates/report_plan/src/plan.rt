@@ -5,7 +5,7 @@ ghost use Rattle.node_spec.specs.Plan.{IsByAddress, IsByNumber, IsLineAt, IsLine
 ghost use Rattle.report_plan.specs.Kept.{IsPlanOf};
 ghost use Rattle.report_plan.specs.Valid.{IsValidWith};
 
-use crate::before::befores;
+use crate::before::Befores;
 use crate::copies::copy_verdict;
 use crate::merge::merged;
 use crate::order::in_order;
@@ -21,7 +21,7 @@ use std::marker::Model;
 #[derive(Drop)]
 pub struct Plan {
     order: Vec<u32>,
-    before: Vec<u32>,
+    before: Befores,
 }
 
 impl Model for Plan {
@@ -29,7 +29,7 @@ impl Model for Plan {
 
     ghost Value = { Kept };
 
-    ghost view = { λ p. record { order = p.order.items; before = p.before.items } };
+    ghost view = { λ p. record { order = p.order.items; before = p.before } };
 }
 
 impl Plan {
@@ -40,7 +40,7 @@ impl Plan {
         let nodes = expanded.graph().nodes();
         Ok(Plan {
             order: in_order(alloc, nodes)?,
-            before: befores(alloc, nodes)?,
+            before: Befores::new(alloc, nodes)?,
         })
     }
 
@@ -50,7 +50,7 @@ impl Plan {
         &self.order
     }
 
-    pub(crate) fn before(&self) -> &[u32]
+    pub(crate) fn before(&self) -> &Befores
         ensures { result.now ≡ self.now.before }
     {
         &self.before

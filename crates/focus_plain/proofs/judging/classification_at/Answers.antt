@@ -1,8 +1,9 @@
 use Rattle.std.proofs.Common.{◌≡◌, ℕ, ◌<◌, true, false, List, Some, None, length, sym, ◌∙◌, subst, arith}
 use Rattle.std.proofs.lemmas.List.{get_or_read}
 use Rattle.path_model.specs.declared.graph.Node.{Node}
+use Rattle.path_trail.specs.Ways.{IsWayOf}
 use Rattle.focus_plain.specs.Entries.{latest_at, trail_of}
-use Rattle.focus_plain.specs.Ways.{IsWayOf}
+use Rattle.focus_plain.proofs.Links.{length-trail}
 use Rattle.focus_plain.proofs.Fates.{noted_way, none_small, none_large}
 use Rattle.focus_plain.proofs.judging.classification_at.Goals as goal
 
@@ -11,14 +12,16 @@ way_of-requires-clause-inside c =
     let found = c.args.found.now in
     let inside : c.args.node < length found.hits.items = omega (arith, c.requires.inside, c.requires.found.one_hit_each) in
     let noted : latest_at found.hits.items c.args.node ≡ Some c.in-Some-Some.hit = sym (get_or_read found.hits.items c.args.node c.index.result.now inside c.index.ensures None) ∙ c.in-Some-Some.is-0 in
-    (c.requires.found.hits.sound c.args.node c.in-Some-Some.hit noted).0
+    let at = c.requires.found.hits.sound c.args.node c.in-Some-Some.hit noted in
+    omega (arith, at.0, length-trail found.search.entries.items)
 
 pub way_of-requires-in-Some-Some-clause-inside : goal.way_of-requires-in-Some-Some-clause-inside
 way_of-requires-in-Some-Some-clause-inside c =
     let found = c.args.found.now in
     let inside : c.args.node < length found.misses.items = omega (arith, c.requires.inside, c.requires.found.one_miss_each) in
     let noted : latest_at found.misses.items c.args.node ≡ Some c.in-Some-Some.miss = sym (get_or_read found.misses.items c.args.node c.index-2.result.now inside c.index-2.ensures None) ∙ c.in-Some-Some.is-1 in
-    (c.requires.found.misses.sound c.args.node c.in-Some-Some.miss noted).0
+    let at = c.requires.found.misses.sound c.args.node c.in-Some-Some.miss noted in
+    omega (arith, at.0, length-trail found.search.entries.items)
 
 pub returns-in_ok-way_of-in-Some-Some-2 : goal.returns-in_ok-way_of-in-Some-Some-2
 returns-in_ok-way_of-in-Some-Some-2 c =

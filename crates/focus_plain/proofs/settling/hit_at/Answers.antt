@@ -1,8 +1,9 @@
 use Rattle.std.proofs.Common.{◌≡◌, ◌<◌, true, List, Some, None, length, sym, ◌∙◌, subst, arith}
 use Rattle.std.proofs.lemmas.List.{get_or_read}
 use Rattle.path_model.specs.declared.graph.Node.{Node}
+use Rattle.path_trail.specs.Ways.{IsWayOf}
 use Rattle.focus_plain.specs.Entries.{latest_at, trail_of}
-use Rattle.focus_plain.specs.Ways.{IsWayOf}
+use Rattle.focus_plain.proofs.Links.{length-trail}
 use Rattle.focus_plain.proofs.Fates.{noted_way, none_small}
 use Rattle.focus_plain.proofs.settling.hit_at.Goals as goal
 
@@ -11,7 +12,8 @@ way_of-requires-clause-inside c =
     let found = c.args.found.now in
     let inside : c.args.node < length found.hits.items = omega (arith, c.requires.inside, c.requires.found.one_hit_each) in
     let noted : latest_at found.hits.items c.args.node ≡ Some c.in-Some.hit = sym (get_or_read found.hits.items c.args.node c.index.result.now inside c.index.ensures None) ∙ c.in-Some.is in
-    (c.requires.found.hits.sound c.args.node c.in-Some.hit noted).0
+    let at = c.requires.found.hits.sound c.args.node c.in-Some.hit noted in
+    omega (arith, at.0, length-trail found.search.entries.items)
 
 pub returns-in_ok-way_of-in-Some : goal.returns-in_ok-way_of-in-Some
 returns-in_ok-way_of-in-Some c =

@@ -1,24 +1,28 @@
-use Rattle.std.proofs.Common.{ℕ, List, reverse, sym, ◌∙◌, subst, arith}
-use Rattle.transition_spec.specs.Path.{HasChoices}
+use Rattle.std.proofs.Common.{IsTrue, arith}
+use Rattle.std.proofs.lemmas.Result.{IfOk-weaker}
 use Rattle.path_model.specs.Graph.{graph_step}
+use Rattle.path_trail.specs.Ways.{IsWayOf}
+use Rattle.report_spec.specs.Valid.{is_valid_way}
+use Rattle.node_spec.specs.Plan.{NamesPathTo}
 use Rattle.node_spec.proofs.Ways.{way_valid}
-use Rattle.report_plan.proofs.Descent.{turned-path, turned-names}
+use Rattle.report_plan.specs.Befores.{entries_of}
+use Rattle.report_plan.proofs.Back.{length-entries, IsTrail-entries, way-names}
 use Rattle.report_plan.proofs.before.way_to.Goals as goal
 
-pub choices_of-requires : goal.choices_of-requires
-choices_of-requires c = turned-path c.args.graph.now c.args.node c.loop-at.at c.loop-at.path.items c.deref.result.now c.loop-at-test.false
-    c.loop-at.invariant (c.deref.ensures.value ∙ c.reverse.ensures.items)
+pub way_of-requires-clause-trail : goal.way_of-requires-clause-trail
+way_of-requires-clause-trail c = IsTrail-entries c.args.graph.now c.args.before.now c.requires.before
+
+pub way_of-requires-clause-inside : goal.way_of-requires-clause-inside
+way_of-requires-clause-inside c =
+    omega (arith, c.requires.inside, c.requires.before.one_each, length-entries c.args.before.now)
 
 pub returns-clause-names : goal.returns-clause-names
 returns-clause-names c =
-    let choices = c.in_ok-choices.choices.items in
-    let P : List ℕ → Type 0 = λ choices. HasChoices (graph_step c.args.graph.now) (reverse c.deref.result.now) choices in
-    turned-names c.args.graph.now c.args.node c.loop-at.at c.len.result c.loop-at.path.items c.deref.result.now c.from_letters.result
-    c.loop-at-test.false c.loop-at.invariant (c.deref.ensures.value ∙ c.reverse.ensures.items)
-    (omega (arith, c.len.ensures, c.deref.ensures.len))
-    (subst P (sym c.from_letters.ensures) c.in_ok-choices.ensures)
+    IfOk-weaker c.way_of.result (IsWayOf c.args.graph.now (entries_of c.args.before.now) c.args.node)
+    (NamesPathTo c.args.graph.now c.args.node)
+    (λ way is. way-names _ _ _ way (omega (arith, c.requires.inside, c.requires.before.one_each)) is) c.way_of.ensures
 
 pub returns-clause-valid : goal.returns-clause-valid
 returns-clause-valid c =
-    let (earlier, path, names) = returns-clause-names c in
-    way_valid (graph_step c.args.graph.now) c.args.node earlier _ names
+    IfOk-weaker c.way_of.result (NamesPathTo c.args.graph.now c.args.node) (λ way. IsTrue (is_valid_way way))
+    (λ way is. way_valid (graph_step c.args.graph.now) c.args.node is.0 way is.2) (returns-clause-names c)

@@ -1,15 +1,25 @@
 use Rattle.std.proofs.Common.{refl, ◌≡◌, zero, suc, List, [], ◌∷◌, Option, Some, None, arith, subst, sym, ◌∙◌, IfSome}
 use Rattle.path_model.specs.declared.graph.Node.{Node}
 use Rattle.path_trail.specs.Trail.{TrailEntry, IsTrail}
-use Rattle.path_trail.proofs.tests.the_path_of_an_entry_begins_at_node_0_and_ends_at_its_node.Goals as goal
+use Rattle.path_trail.proofs.tests.an_entry_has_the_path_to_its_node_and_the_way_that_names_it.Goals as goal
 
 -- the nodes of the test
 nodes : List Node
-nodes = record { at = 0; first = Some 1; second = None } ∷ record { at = 4; first = Some 2; second = Some 0 } ∷ record { at = 8; first = None; second = None } ∷ []
+nodes =
+    record { at = 0; first = Some 1; second = None }
+    ∷ record { at = 4; first = Some 2; second = Some 0 }
+    ∷ record { at = 8; first = None; second = None }
+    ∷ []
 
 -- the entries of the test
 entries : List TrailEntry
-entries = record { node = 0; earlier = None } ∷ record { node = 1; earlier = Some 0 } ∷ record { node = 0; earlier = Some 1 } ∷ record { node = 1; earlier = Some 2 } ∷ record { node = 2; earlier = Some 3 } ∷ []
+entries =
+    record { node = 0; earlier = None }
+    ∷ record { node = 1; earlier = Some 0 }
+    ∷ record { node = 0; earlier = Some 1 }
+    ∷ record { node = 1; earlier = Some 2 }
+    ∷ record { node = 2; earlier = Some 3 }
+    ∷ []
 
 -- each of them follows the one before it
 rounds : IsTrail nodes entries
