@@ -1,3 +1,5 @@
+//! What is wrong with a file. The program prints `top_words::text_of` of it; the messages here are for callers of the
+//! crates.
 use thiserror::Error;
 
 /// Why a file isn't read as an executable. Counts and sums are in bytes; an index counts all program headers from 0.

@@ -1,3 +1,5 @@
+//! What is wrong with a program. The program prints `top_words::text_of` of it; the messages here are for callers of the
+//! crates.
 use std::alloc::AllocError;
 use thiserror::Error;
 

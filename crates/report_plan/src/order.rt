@@ -8,7 +8,7 @@ ghost use Rattle.report_plan.specs.Kept.{AreInOrder};
 use path_model::Node;
 use std::alloc::{AllocError, Global};
 
-// The address that a node fetches, or 0 where there is no node.
+// The closure of a sort can carry no condition, so any number has an address: 0 where there is no node.
 fn address_of(nodes: &[Node], number: u32) -> u32
     ensures { result ≡ address_of nodes.now number }
 {

@@ -13,6 +13,7 @@ pub enum Status {
     Done,
     /// The words give no settings. Nothing was read.
     Usage,
+    /// No memory was left.
     OutOfMemory,
     /// The source failed.
     ReadFault,

@@ -33,31 +33,31 @@ in_call opened address = configuration (opened ∷ []) address
 
 -- a word and a branch back to it by 4 bytes, with a stop behind
 abbrev pub loop : List ℕ
-loop = 0x00000013 ∷ 0xfe051ee3 ∷ 0x00100073 ∷ []
+loop = 0x00000013 ∷ 0xfe051ee3 ∷ 0x00100073 ∷ []  -- nop; bnez a0, -4; ebreak
 
 -- the same with a word behind that no path reaches
 abbrev pub loop_and_rest : List ℕ
-loop_and_rest = 0x00000013 ∷ 0xfe051ee3 ∷ 0x00100073 ∷ 0x00000013 ∷ []
+loop_and_rest = 0x00000013 ∷ 0xfe051ee3 ∷ 0x00100073 ∷ 0x00000013 ∷ []  -- nop; bnez a0, -4; ebreak; nop
 
 -- two calls of one function, a stop, and the function, which returns
 abbrev pub two_calls : List ℕ
-two_calls = 0x00c000ef ∷ 0x008000ef ∷ 0x00100073 ∷ 0x00008067 ∷ []
+two_calls = 0x00c000ef ∷ 0x008000ef ∷ 0x00100073 ∷ 0x00008067 ∷ []  -- jal +12; jal +8; ebreak; ret
 
 -- a pair that calls the last word, a stop, and a return
 abbrev pub pair_call : List ℕ
-pair_call = 0x00000097 ∷ 0x00c080e7 ∷ 0x00100073 ∷ 0x00008067 ∷ []
+pair_call = 0x00000097 ∷ 0x00c080e7 ∷ 0x00100073 ∷ 0x00008067 ∷ []  -- auipc ra, 0; jalr 12(ra); ebreak; ret
 
 -- a branch onto the second half of a pair
 abbrev pub branch_onto_pair : List ℕ
-branch_onto_pair = 0x00000463 ∷ 0x00000097 ∷ 0x00c080e7 ∷ []
+branch_onto_pair = 0x00000463 ∷ 0x00000097 ∷ 0x00c080e7 ∷ []  -- beqz zero, +8; auipc ra, 0; jalr 12(ra)
 
 -- a call by x5, a stop, and a return by x5
 abbrev pub call_by_x5 : List ℕ
-call_by_x5 = 0x008002ef ∷ 0x00100073 ∷ 0x00028067 ∷ []
+call_by_x5 = 0x008002ef ∷ 0x00100073 ∷ 0x00028067 ∷ []  -- jal t0, +8; ebreak; jr t0
 
 -- the same with a return by x1
 abbrev pub crossed_links : List ℕ
-crossed_links = 0x008002ef ∷ 0x00100073 ∷ 0x00008067 ∷ []
+crossed_links = 0x008002ef ∷ 0x00100073 ∷ 0x00008067 ∷ []  -- jal t0, +8; ebreak; ret
 
 -- a call by x1 of a function that calls another by x5
 abbrev pub nested : List ℕ
