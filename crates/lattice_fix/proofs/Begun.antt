@@ -64,6 +64,7 @@ module _ {V D : Type 0} (F : Framework D) (M : IsMonotone F) (fits : V → Type 
   course_begun =
       let none : value_at (nothing {D = D} nodes) 0 ≡ None = at_replicate (length nodes) 0 None in
       record {
+        graph = G;
         one_each = ap length slots ∙ (length-set (replicate (length nodes) None) 0 (Some v) ∙ length-replicate (length nodes) None);
         one_flag_each = ap length flags ∙ (length-set (replicate (length nodes) false) 0 true ∙ length-replicate (length nodes) false);
         fit = fit_each;

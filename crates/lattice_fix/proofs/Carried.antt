@@ -132,6 +132,7 @@ module _ {V D : Type 0} (F : Framework D) (M : IsMonotone F) (fits : V → Type 
     -- the course goes on
     pub course_carried : IsCourse F fits stands nodes after new waits
     course_carried = record {
+      graph = G;
       one_each = length-set values to slot ∙ course.one_each;
       one_flag_each = flags_after cases;
       fit = fit_after;

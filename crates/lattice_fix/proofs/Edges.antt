@@ -1,5 +1,5 @@
 -- The edges of a graph lead from nodes to nodes.
-use Rattle.std.proofs.Common.{◌≡◌, ◌≢◌, ℕ, ◌<◌, Bool, List, length, Option, Some, None, IsTrue, sym, ◌∙◌, refl, subst, ⊎_elim}
+use Rattle.std.proofs.Common.{◌≡◌, ◌≢◌, ℕ, ◌<◌, Bool, List, length, Option, Some, None, IsTrue, sym, ◌∙◌, refl, subst, arith, ⊎_elim}
 use Rattle.std.specs.Prelude.{slice_get}
 use Rattle.std.proofs.lemmas.Bool.{cases_eq}
 use Rattle.std.proofs.lemmas.Option.{slice_get_within, none-some}
@@ -7,7 +7,8 @@ use Rattle.transition_spec.specs.Path.{IsSuccessor}
 use Rattle.path_model.specs.declared.graph.Node.{Node}
 use Rattle.path_model.specs.Graph.{IsGraph, graph_step, are_fit}
 use Rattle.lattice_fix.specs.Framework.{Framework}
-use Rattle.lattice_fix.specs.Course.{IsClear, IsSettled}
+use Rattle.lattice_fix.specs.declared.change.Change.{Change}
+use Rattle.lattice_fix.specs.Course.{IsCourse, IsClear, IsSettled}
 use Rattle.path_model.proofs.Reached.{successor_inside}
 use Rattle.path_model.proofs.Edges.{node-from_successor, leads-from_successor, LeadsTo, fit_at}
 
@@ -15,6 +16,23 @@ use Rattle.path_model.proofs.Edges.{node-from_successor, leads-from_successor, L
 pub edge_inside : (nodes : List Node) → IsGraph nodes → (n m : ℕ) → IsSuccessor (graph_step nodes) n m → (n < length nodes) × (m < length nodes)
 edge_inside nodes graph n m leads = let named = node-from_successor nodes n m leads in
     (slice_get_within nodes n named.0 named.1, successor_inside nodes n m graph leads)
+
+-- both ends of an edge have a slot, and the second has a flag
+pub record HaveSlots {V : Type 0} (values : List (Option V)) (waiting : List Bool) (n m : ℕ) : Type 0 where
+  pub from : n < length values
+  pub to : m < length values
+  pub flag : m < length waiting
+
+-- so it is while the solver works
+pub have_slots : {V D : Type 0} {F : Framework D} {fits : V → Type 0} {stands : V → D} {nodes : List Node}
+    {values : List (Option V)} {changes : List Change} {waiting : List Bool} →
+    IsCourse F fits stands nodes values changes waiting → (n m : ℕ) → IsSuccessor (graph_step nodes) n m →
+    HaveSlots values waiting n m
+have_slots {nodes = nodes} course n m edge = let ends = edge_inside nodes course.graph n m edge in record {
+  from = omega (arith, ends.0, course.one_each);
+  to = omega (arith, ends.1, course.one_each);
+  flag = omega (arith, ends.1, course.one_flag_each);
+}
 
 -- a second successor comes only behind a first
 second_none : (count : ℕ) (first second : Option ℕ) → IsTrue (are_fit count first second) → first ≡ None → second ≡ None

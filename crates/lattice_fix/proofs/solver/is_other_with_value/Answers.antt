@@ -12,4 +12,4 @@ pub returns-then-node-from : goal.returns-then-node-from
 returns-then-node-from g c = λ some.
     let slot = get_or_read c.args.values.now c.args.node c.index-values-node.result c.requires c.index-values-node.is None in
     let value = there c.index-values-node.result (subst IsTrue c.is_some.ensures some) in
-    (c.if-node-from.true, (value.0, sym slot ∙ value.1))
+    record { apart = c.if-node-from.true; held = (value.0, sym slot ∙ value.1) }
