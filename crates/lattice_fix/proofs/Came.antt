@@ -19,15 +19,25 @@ pub record ComesAlong {Self V S : Type 0} (g : Ghosts Self V S) (nodes : List No
   pub advances : Advances g nodes before old domain new
   pub clear : IsClearAt g domain new from to
 
-module _ {Self V S : Type 0} (g : Ghosts Self V S) (before domain : Self) (later : IsLater g before domain) (M : IsMonotone (framework_of g domain))
+module _ {Self V S : Type 0} (g : Ghosts Self V S) (before domain : Self) (later : IsLater g before domain)
+    (M : IsMonotone (framework_of g domain))
     (nodes : List Node) (old new : Work V) (course : IsUnderWay g nodes before old)
     (from to : ℕ) (edge : IsSuccessor (graph_step nodes) from to) (moved : V) (is : IsMovedFrom g before old from moved)
-    (raised : Bool) (was slot : Option V) (found : was ≡ value_at old.values.items to) (got : Receives g domain was moved raised slot)
+    (raised : Bool) (was slot : Option V) (found : was ≡ value_at old.values.items to)
+    (got : Receives g domain was moved raised slot)
     (leaves : new.values.items ≡ slice_set old.values.items to slot)
     (noted : IsNoted raised from to old.changes.items old.waiting new.changes.items new.waiting) where
   -- the framework
-  abbrev pub F : Framework g.Data
+  abbrev F : Framework g.Data
   F = framework_of g domain
+
+  -- which values are fit
+  abbrev fits : V → Type 0
+  fits = fits_in g domain
+
+  -- what a value stands for
+  abbrev stands : V → g.Data
+  stands = data_in g domain
 
   -- what the slot got, at the node
   got_there : Receives g domain (value_at old.values.items to) moved raised slot
@@ -43,20 +53,23 @@ module _ {Self V S : Type 0} (g : Ghosts Self V S) (before domain : Self) (later
 
   -- the solver is under way with what the slot got
   course_came : IsUnderWay g nodes domain new
-  course_came = subst (λ (vs : List (Option V)). IsCourse F (fits_in g domain) (data_in g domain) nodes vs new.changes.items new.waiting) (sym leaves)
-      (course_carried F M (fits_in g domain) (data_in g domain) nodes course.graph old.values.items old.changes.items old.waiting course_then
+  course_came =
+      subst (λ (vs : List (Option V)). IsCourse F fits stands nodes vs new.changes.items new.waiting) (sym leaves)
+      (course_carried F M fits stands nodes old.values.items old.changes.items old.waiting course_then
       from to edge moved moved_then raised slot got_there new.changes.items new.waiting noted)
 
   -- the edge is clear
   clear_along : IsClearAt g domain new from to
-  clear_along = subst (λ (vs : List (Option V)). IsClear F (data_of (data_in g domain) vs) new.waiting from to) (sym leaves)
-      (clear_carried F M (fits_in g domain) (data_in g domain) nodes course.graph old.values.items old.changes.items old.waiting course_then
+  clear_along = subst (λ (vs : List (Option V)). IsClear F (data_of stands vs) new.waiting from to) (sym leaves)
+      (clear_carried F M fits stands nodes old.values.items old.changes.items old.waiting course_then
       from to edge moved moved_then raised slot got_there new.changes.items new.waiting noted)
 
   -- the solver went on from the old work
-  progress_came : IsProgress F (held_in g domain old) old.changes.items old.waiting F (held_in g domain new) new.changes.items new.waiting
-  progress_came = subst (λ (vs : List (Option V)). IsProgress F (held_in g domain old) old.changes.items old.waiting F (data_of (data_in g domain) vs) new.changes.items new.waiting) (sym leaves)
-      (progress_carried F M (fits_in g domain) (data_in g domain) nodes course.graph old.values.items old.changes.items old.waiting course_then
+  progress_came : IsProgress F (held_in g domain old) old.changes.items old.waiting
+      F (held_in g domain new) new.changes.items new.waiting
+  progress_came = subst (λ (vs : List (Option V)). IsProgress F (held_in g domain old) old.changes.items old.waiting
+      F (data_of stands vs) new.changes.items new.waiting) (sym leaves)
+      (progress_carried F M fits stands nodes old.values.items old.changes.items old.waiting course_then
       from to edge moved moved_then raised slot got_there new.changes.items new.waiting noted)
 
   -- the solver advances, and the edge is clear

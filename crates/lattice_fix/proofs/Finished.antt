@@ -36,7 +36,8 @@ pub record IsFinished {V D : Type 0} (F : Framework D) (fits : V → Type 0) (st
   pub replay : Replays F nodes (nothing nodes) changes (map Some (map stands (somes values)))
 
 module _ {V D : Type 0} (F : Framework D) (M : IsMonotone F) (fits : V → Type 0) (stands : V → D) (nodes : List Node)
-    (values : List (Option V)) (changes : List Change) (waiting : List Bool) (course : IsCourse F fits stands nodes values changes waiting)
+    (values : List (Option V)) (changes : List Change) (waiting : List Bool)
+    (course : IsCourse F fits stands nodes values changes waiting)
     (settled : IsSettled F nodes (data_of stands values) waiting) (done : (n : ℕ) → IsDone waiting n) where
   -- each edge is met
   met : (n m : ℕ) → IsSuccessor (graph_step nodes) n m → IsMet F (data_of stands values) n m
@@ -46,7 +47,10 @@ module _ {V D : Type 0} (F : Framework D) (M : IsMonotone F) (fits : V → Type 
   has_below : (bound n : ℕ) → n < bound → n < length nodes → (x : D) × (value_at (data_of stands values) n ≡ Some x)
   has_below zero n small inside = absurd (omega arith)
   has_below (suc bound) n small inside = ⊎_elim
-      (λ (same : n ≡ 0). (course.begun.0, subst (λ (k : ℕ). value_at (data_of stands values) k ≡ Some course.begun.0) (sym same) course.begun.1))
+      (λ (same : n ≡ 0). (
+        course.begun.0,
+        subst (λ (k : ℕ). value_at (data_of stands values) k ≡ Some course.begun.0) (sym same) course.begun.1,
+      ))
       (λ (other : n ≢ 0).
       let first : 1 ≤ n = omega arith in
       let before = course.graph.reached n first inside in
@@ -88,7 +92,9 @@ module _ {V D : Type 0} (F : Framework D) (M : IsMonotone F) (fits : V → Type 
   solution = record {
     one_each = length-map (somes values) stands ∙ as_many;
     within = λ n x is. replay_within F M nodes changes (data_of stands values) course.replay n x (at n x is);
-    starts = λ x is. subst (λ (y : D). F.below F.start y) (same_Some course.begun.0 x (sym course.begun.1 ∙ at 0 x is)) course.begun.2;
+    starts = λ x is.
+        let same : course.begun.0 ≡ x = same_Some course.begun.0 x (sym course.begun.1 ∙ at 0 x is) in
+        subst (λ (y : D). F.below F.start y) same course.begun.2;
     follows = λ n m x y edge is_x is_y.
         let then = met n m edge x (at n x is_x) in
         subst (λ (z : D). F.below (F.transfer n x) z) (same_Some then.0 y (sym then.1 ∙ at m y is_y)) then.2;
@@ -98,12 +104,16 @@ module _ {V D : Type 0} (F : Framework D) (M : IsMonotone F) (fits : V → Type 
   least : IsLeast F nodes before
   least = record {
     solution = solution;
-    least = λ other sol n x y is_x is_y. replay_below F M nodes course.graph other sol changes (data_of stands values) course.replay n x y (at n x is_x) is_y;
+    least = λ other sol n x y is_x is_y.
+        replay_below F M nodes course.graph other sol changes (data_of stands values) course.replay n x y
+        (at n x is_x) is_y;
   }
 
   -- the values are fit
   all_fit : All fits (somes values)
-  all_fit = All-filled fits (somes values) (λ n v is. course.fit n v (ap (λ (w : List (Option V)). value_at w n) (sym filled) ∙ (value_at-filled (somes values) n ∙ is)))
+  all_fit = All-filled fits (somes values) (λ n v is.
+      let slots = ap (λ (w : List (Option V)). value_at w n) (sym filled) in
+      course.fit n v (slots ∙ (value_at-filled (somes values) n ∙ is)))
 
   -- and the changes replay to what they stand for
   replays : Replays F nodes (nothing nodes) changes (map Some before)

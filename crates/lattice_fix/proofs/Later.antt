@@ -18,20 +18,25 @@ use Rattle.lattice_fix.specs.Course.{IsCourse, IsClear, data_of}
 use Rattle.lattice_fix.specs.UnderWay.{IsUnderWay, IsClearAt, IsMovedFrom, framework_of, fits_in, data_in, held_in}
 
 -- what a node's value stands for
-pub data_at : {V D : Type 0} (stands : V → D) (values : List (Option V)) (n : ℕ) → value_at (data_of stands values) n ≡ option_map stands (value_at values n)
+pub data_at : {V D : Type 0} (stands : V → D) (values : List (Option V)) (n : ℕ) →
+    value_at (data_of stands values) n ≡ option_map stands (value_at values n)
 data_at stands values n = ⊎_elim
     (λ (inside : n < length values). get_or-map (option_map stands) values n None None inside)
     (λ (past : length values ≤ n).
-    let beyond : length (data_of stands values) ≤ n = subst (λ (k : ℕ). k ≤ n) (sym (length-map values (option_map stands))) past in
+    let beyond : length (data_of stands values) ≤ n =
+    subst (λ (k : ℕ). k ≤ n) (sym (length-map values (option_map stands))) past in
     get_or_past (data_of stands values) n None beyond ∙ ap (option_map stands) (sym (get_or_past values n None past)))
     (cases_lt n (length values))
 
 -- values that stand for the same stand for the same data
-same_data : {V D : Type 0} (f g : V → D) (values : List (Option V)) → ((n : ℕ) (v : V) → value_at values n ≡ Some v → g v ≡ f v) → data_of g values ≡ data_of f values
+same_data : {V D : Type 0} (f g : V → D) (values : List (Option V)) →
+    ((n : ℕ) (v : V) → value_at values n ≡ Some v → g v ≡ f v) → data_of g values ≡ data_of f values
 same_data f g [] same = refl
-same_data {V} {D} f g (None ∷ values) same = ap (λ (w : List (Option D)). None ∷ w) (same_data f g values (λ n. same (suc n)))
+same_data {V} {D} f g (None ∷ values) same =
+    ap (λ (w : List (Option D)). None ∷ w) (same_data f g values (λ n. same (suc n)))
 same_data {V} {D} f g (Some v ∷ values) same =
-    ap (λ (y : D). Some y ∷ data_of g values) (same 0 v refl) ∙ ap (λ (w : List (Option D)). Some (f v) ∷ w) (same_data f g values (λ n. same (suc n)))
+    ap (λ (y : D). Some y ∷ data_of g values) (same 0 v refl)
+    ∙ ap (λ (w : List (Option D)). Some (f v) ∷ w) (same_data f g values (λ n. same (suc n)))
 
 -- the domain went on: its setting is the same, and a fit value stays fit and stands for the same
 pub record IsLater {Self V S : Type 0} (g : Ghosts Self V S) (old new : Self) : Type 0 where
@@ -40,7 +45,7 @@ pub record IsLater {Self V S : Type 0} (g : Ghosts Self V S) (old new : Self) : 
   pub fits : (v : V) → fits_in g old v → fits_in g new v
   pub stands : (v : V) → fits_in g old v → data_in g new v ≡ data_in g old v
 
--- so it is by the laws where the domain went on
+-- by its laws the domain went on like that
 pub is_later : {M : Type 1} {𝓤 : Ura M} {𝓛 : Logic 𝓤} {𝓜 : Model 𝓤 𝓛.H} {𝓡 : Running 𝓤 𝓛.H 𝓜} {Self V S : RattleType}
     {g : Ghosts Self.Denot V.Denot S.Denot} {d : Dict} → Met 𝓛 𝓜 𝓡 𝓡.env Self V S g d → (old new : Self.Denot) →
     g.goes_on (g.state old) (g.state new) → IsLater g old new
@@ -73,8 +78,8 @@ module _ {Self V S : Type 0} (g : Ghosts Self V S) (old new : Self) (later : IsL
           one_each = course.one_each;
           one_flag_each = course.one_flag_each;
           fit = λ n v is. later.fits v (course.fit n v is);
-          begun = subst (λ (w : List (Option g.Data)). (x : g.Data) × (value_at w 0 ≡ Some x) × F.below F.start x) (sym stay)
-              course.begun;
+          begun = subst (λ (w : List (Option g.Data)). (x : g.Data) × (value_at w 0 ≡ Some x) × F.below F.start x)
+              (sym stay) course.begun;
           replay = subst (λ (w : List (Option g.Data)). Replays F nodes (nothing nodes) work.changes.items w) (sym stay)
               course.replay;
         })
@@ -93,7 +98,8 @@ module _ {Self V S : Type 0} (g : Ghosts Self V S) (old new : Self) (later : IsL
       held = is.held;
       same = later.stands moved is.fit
           ∙ (is.same
-          ∙ (ap (λ (y : g.Data). (framework_of g old).transfer from y) (sym (later.stands is.value (course.fit from is.value is.held)))
+          ∙ (ap (λ (y : g.Data). (framework_of g old).transfer from y)
+          (sym (later.stands is.value (course.fit from is.value is.held)))
           ∙ ap (λ (b : g.Setting). (g.framework b).transfer from (data_in g new is.value)) (sym later.setting)));
     }
 

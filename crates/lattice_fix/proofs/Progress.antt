@@ -1,4 +1,4 @@
--- Steps of progress, one after another.
+-- Advances of the solver, one after another.
 use Rattle.std.proofs.Common.{◌≡◌, List, length, Result, Ok, Err, refl, ◌∙◌, arith}
 use Rattle.std.specs.Result.{OnOk}
 use Rattle.path_model.specs.declared.graph.Node.{Node}
@@ -29,7 +29,8 @@ pub advances_later : {Self V S : Type 0} (g : Ghosts Self V S) (nodes : List Nod
     IsLater g old new → IsUnderWay g nodes old work → Advances g nodes old work new work
 advances_later g nodes old new work later course = record {
   under_way = under_way_later g old new later nodes work course;
-  progress = record { keeps = clear_later g old new later nodes work course; longer = omega arith; calm = λ same. refl };
+  progress =
+      record { keeps = clear_later g old new later nodes work course; longer = omega arith; calm = λ same. refl };
 }
 
 -- where nothing was done the solver advances
@@ -40,12 +41,13 @@ advances_refl g nodes domain work course = record {
   progress = record { keeps = λ n m clear. clear; longer = omega arith; calm = λ same. refl };
 }
 
--- what follows from two clauses on one outcome, or from three
+-- what follows from two clauses on one outcome
 pub OnOk-two : {T E P Q S : Type 0} (r : Result T E) → (P → Q → S) → OnOk r P → OnOk r Q → OnOk r S
 OnOk-two (Ok value) then p q = then p q
 OnOk-two (Err fault) then p q = tt
 
--- the same from three
-pub OnOk-three : {T E P Q R S : Type 0} (r : Result T E) → (P → Q → R → S) → OnOk r P → OnOk r Q → OnOk r R → OnOk r S
+-- what follows from three clauses on one outcome
+pub OnOk-three : {T E P Q R S : Type 0} (r : Result T E) → (P → Q → R → S) →
+    OnOk r P → OnOk r Q → OnOk r R → OnOk r S
 OnOk-three (Ok value) then p q s = then p q s
 OnOk-three (Err fault) then p q s = tt

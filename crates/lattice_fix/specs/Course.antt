@@ -26,7 +26,8 @@ pub record IsCourse {V D : Type 0} (F : Framework D) (fits : V → Type 0) (stan
 
 -- once the node has a value, the successor has at least the transfer of it
 abbrev pub IsMet : {D : Type 0} → Framework D → List (Option D) → ℕ → ℕ → Type 0
-IsMet {D} F held n m = (x : D) → value_at held n ≡ Some x → (y : D) × (value_at held m ≡ Some y) × F.below (F.transfer n x) y
+IsMet {D} F held n m =
+    (x : D) → value_at held n ≡ Some x → (y : D) × (value_at held m ≡ Some y) × F.below (F.transfer n x) y
 
 -- the same, unless the node waits
 abbrev pub IsClear : {D : Type 0} → Framework D → List (Option D) → List Bool → ℕ → ℕ → Type 0
@@ -57,7 +58,8 @@ pub record IsReceived {V D : Type 0} (F : Framework D) (fits : V → Type 0) (st
 -- a raise is noted as a change, and the node then waits; else all stays
 pub record IsNoted (raised : Bool) (from to : ℕ) (old : List Change) (waited : List Bool)
     (new : List Change) (waiting : List Bool) : Type 0 where
-  pub raise : raised ≡ true → (new ≡ old ++ record { node = to; from = Some from } ∷ []) × (waiting ≡ slice_set waited to true)
+  pub raise : raised ≡ true →
+      (new ≡ old ++ record { node = to; from = Some from } ∷ []) × (waiting ≡ slice_set waited to true)
   pub none : raised ≡ false → (new ≡ old) × (waiting ≡ waited)
 
 -- the solver went on: what was clear stays clear, no change is lost, and with no new one no other node waits

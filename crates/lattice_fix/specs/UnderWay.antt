@@ -71,3 +71,7 @@ module _ {Self V S : Type 0} (g : Ghosts Self V S) where
 pub record IsOtherWithValue {V : Type 0} (values : List (Option V)) (from node : ℕ) : Type 0 where
   pub apart : node ≢ from
   pub held : (v : V) × (value_at values node ≡ Some v)
+
+-- each node but one keeps its value
+abbrev pub OthersStay : {V : Type 0} → List (Option V) → ℕ → List (Option V) → Type 0
+OthersStay old node new = (n : ℕ) → n ≢ node → value_at new n ≡ value_at old n

@@ -8,7 +8,7 @@ ghost use Rattle.lattice_fix.specs.Replay.{Replays, nothing, value_at};
 ghost use Rattle.lattice_fix.specs.Solved.{IsCause};
 ghost use Rattle.lattice_fix.specs.declared.change.SolveFault.TheVariants.{OutOfMemory};
 ghost use Rattle.lattice_fix.specs.Course.{IsNoted};
-ghost use Rattle.lattice_fix.specs.UnderWay.{IsUnderWay, IsClearAt, AllAreClear, OthersAreClear, IsMovedFrom, Receives, GoesOn, Advances, IsOtherWithValue};
+ghost use Rattle.lattice_fix.specs.UnderWay.{IsUnderWay, IsClearAt, AllAreClear, OthersAreClear, IsMovedFrom, Receives, GoesOn, Advances, IsOtherWithValue, OthersStay};
 ghost use Rattle.lattice_fix.specs.Waits.{IsDone};
 
 use crate::change::{Change, Solution, SolveFault};
@@ -261,7 +261,7 @@ fn lend<D: Domain>(
     ensures domain { GoesOn D.Domain domain.old domain.new result }
     ensures advances { OnOk result (Advances D.Domain nodes.now domain.old work.old domain.new work.new) }
     ensures clear { OnOk result (IsClearAt D.Domain domain.new work.new from to) }
-    ensures others { OnOk result ((n : ℕ) → n ≢ to → value_at work.new.values.items n ≡ value_at work.old.values.items n) }
+    ensures others { OnOk result (OthersStay work.old.values.items to work.new.values.items) }
 {
     match join(domain, &mut work.values[to as usize], moved) {
         Ok(raised) => note(work, from, to, raised),

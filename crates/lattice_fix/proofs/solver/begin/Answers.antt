@@ -8,7 +8,8 @@ returns-in-Ok-first_work-clause-under_way g c =
     let made = c.in-Ok-first_work.ensures in
     let work = c.in-Ok-first_work.work in
     course_begun (framework_of g.D.Domain domain) (g.met.D.Domain.monotone domain) (fits_in g.D.Domain domain)
-    (data_in g.D.Domain domain) c.args.nodes.now c.requires.graph c.in-Ok.start c.in-Ok.ensures.fits c.in-Ok.ensures.value
+    (data_in g.D.Domain domain) c.args.nodes.now c.requires.graph
+    c.in-Ok.start c.in-Ok.ensures.fits c.in-Ok.ensures.value
     work.values.items made.values work.changes.items made.changes work.waiting made.waiting
 
 pub returns-in-Ok-first_work-clause-settled : goal.returns-in-Ok-first_work-clause-settled
@@ -17,5 +18,6 @@ returns-in-Ok-first_work-clause-settled g c =
     let made = c.in-Ok-first_work.ensures in
     let work = c.in-Ok-first_work.work in
     settled_begun (framework_of g.D.Domain domain) (g.met.D.Domain.monotone domain) (fits_in g.D.Domain domain)
-    (data_in g.D.Domain domain) c.args.nodes.now c.requires.graph c.in-Ok.start c.in-Ok.ensures.fits c.in-Ok.ensures.value
+    (data_in g.D.Domain domain) c.args.nodes.now c.requires.graph
+    c.in-Ok.start c.in-Ok.ensures.fits c.in-Ok.ensures.value
     work.values.items made.values work.changes.items made.changes work.waiting made.waiting

@@ -15,14 +15,16 @@ module _ (g : Over) (c : In-Ok g) where
   value_is : value_at c.args.work.now.values.items c.args.from ≡ Some c.in-Some.value
   value_is =
       let slots = have_slots c.requires.under_way c.args.from c.args.to c.requires.edge in
-      sym (get_or_read c.args.work.now.values.items c.args.from c.index.result.now slots.from c.index.ensures None) ∙ c.in-Some.is
+      let values = c.args.work.now.values.items in
+      sym (get_or_read values c.args.from c.index.result.now slots.from c.index.ensures None) ∙ c.in-Some.is
 
   -- what was moved stands for the transfer of it
   moved : IsMovedFrom g.D.Domain c.transfer.new.self c.args.work.now c.args.from c.in-Ok.moved
   moved = record { fit = c.in-Ok.ensures.fits; value = c.in-Some.value; held = value_is; same = c.in-Ok.ensures.value }
 
   -- the domain went on by the transfer, and the work is as it was
-  transferred : Advances g.D.Domain c.args.nodes.now c.args.domain.now c.args.work.now c.transfer.new.self c.args.work.now
+  transferred : Advances g.D.Domain c.args.nodes.now c.args.domain.now c.args.work.now
+      c.transfer.new.self c.args.work.now
   transferred = advances_later g.D.Domain c.args.nodes.now c.args.domain.now c.transfer.new.self c.args.work.now
       (is_later g.met.D.Domain c.args.domain.now c.transfer.new.self c.in-Ok.ensures.goes_on) c.requires.under_way
 

@@ -32,21 +32,25 @@ module _ (g : Over) (c : After-note g) where
 
   -- it has what the node has
   found : c.index_mut.result.now ≡ value_at c.args.work.now.values.items c.args.to
-  found = get_or_read c.args.work.now.values.items c.args.to c.index_mut.result.now slots.to c.index_mut.ensures.value None
+  found =
+      let slot = c.index_mut.result.now in
+      get_or_read c.args.work.now.values.items c.args.to slot slots.to c.index_mut.ensures.value None
 
   -- where the raise is noted the solver advances, and the edge is then clear
   comes : IsNoted c.in-Ok.raised c.args.from c.args.to c.args.work.now.changes.items c.args.work.now.waiting
       c.note.new.work.changes.items c.note.new.work.waiting →
-      ComesAlong g.D.Domain c.args.nodes.now c.args.domain.now c.args.work.now c.receive.new.domain c.note.new.work c.args.from c.args.to
+      ComesAlong g.D.Domain c.args.nodes.now c.args.domain.now c.args.work.now c.receive.new.domain c.note.new.work
+      c.args.from c.args.to
   comes noted = comes_along g.D.Domain c.args.domain.now c.receive.new.domain
       (is_later g.met.D.Domain c.args.domain.now c.receive.new.domain c.in-Ok.ensures.goes_on)
-      (g.met.D.Domain.monotone c.receive.new.domain) c.args.nodes.now c.args.work.now c.note.new.work c.requires.under_way
-      c.args.from c.args.to c.requires.edge c.args.moved c.requires.moved
+      (g.met.D.Domain.monotone c.receive.new.domain) c.args.nodes.now c.args.work.now c.note.new.work
+      c.requires.under_way c.args.from c.args.to c.requires.edge c.args.moved c.requires.moved
       c.in-Ok.raised c.index_mut.result.now c.receive.new.slot found c.in-Ok.ensures.received
       (ap (λ values. values.items) c.note.ensures.values) noted
 
 pub returns-in-Ok-clause-advances : goal.returns-in-Ok-clause-advances
-returns-in-Ok-clause-advances g c = on_ok_weaker c.note.result (λ noted. (comes g c noted).advances) c.note.ensures.noted
+returns-in-Ok-clause-advances g c =
+    on_ok_weaker c.note.result (λ noted. (comes g c noted).advances) c.note.ensures.noted
 
 pub returns-in-Ok-clause-clear : goal.returns-in-Ok-clause-clear
 returns-in-Ok-clause-clear g c = on_ok_weaker c.note.result (λ noted. (comes g c noted).clear) c.note.ensures.noted

@@ -33,9 +33,10 @@ loop-node-smaller g c =
 
 pub returns-clause-under_way : goal.returns-clause-under_way
 returns-clause-under_way g c =
+    let D = g.D.Domain in
     let domain = c.loop-node.domain in
     let work = c.loop-node.work in
-    subst (λ (w : List Bool). IsCourse (framework_of g.D.Domain domain) (fits_in g.D.Domain domain) (data_in g.D.Domain domain)
+    subst (λ (w : List Bool). IsCourse (framework_of D domain) (fits_in D domain) (data_in D domain)
     c.args.nodes.now work.values.items work.changes.items w)
     (sym c.in_default.ensures.kept) c.loop-node.invariant.under_way
 
