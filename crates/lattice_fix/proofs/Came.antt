@@ -1,54 +1,82 @@
--- What a state of the domain has once a value came along an edge, and the domain went on.
+-- What holds of the solver's work once a value came along an edge, and the domain went on.
 use Rattle.std.proofs.Common.{◌≡◌, ℕ, Bool, List, slice_set, Option, sym, subst}
 use Rattle.transition_spec.specs.Path.{IsSuccessor}
 use Rattle.path_model.specs.declared.graph.Node.{Node}
-use Rattle.path_model.specs.Graph.{IsGraph, graph_step}
-use Rattle.lattice_fix.specs.declared.change.Change.{Change}
+use Rattle.path_model.specs.Graph.{graph_step}
+use Rattle.lattice_fix.specs.declared.domain.Domain.{Ghosts}
+use Rattle.lattice_fix.specs.declared.solver.Work.{Work}
 use Rattle.lattice_fix.specs.Framework.{Framework, IsMonotone}
 use Rattle.lattice_fix.specs.Replay.{value_at}
-use Rattle.lattice_fix.specs.Course.{IsCourse, IsClear, IsMoved, IsReceived, IsNoted, IsProgress, data_of}
+use Rattle.lattice_fix.specs.Course.{IsCourse, IsClear, IsProgress, IsNoted, data_of}
+use Rattle.lattice_fix.specs.UnderWay.{IsUnderWay, IsClearAt, IsMovedFrom, Receives, Advances, framework_of, fits_in, data_in, held_in}
 use Rattle.lattice_fix.proofs.Carried.{course_carried, clear_carried, progress_carried}
-use Rattle.lattice_fix.proofs.Progress.{progress_trans, progress_stays}
-use Rattle.lattice_fix.proofs.Later.{course_later, clear_later, moved_later}
+use Rattle.lattice_fix.proofs.Progress.{advances_trans, advances_later}
+use Rattle.lattice_fix.proofs.Later.{IsLater, under_way_later, moved_later}
 
-module _ {V D Setting State : Type 0} (goes_on : State → State → Type 0) (fits : State → V → Type 0) (stands : State → V → D)
-    (setting : State → Setting) (framework : Setting → Framework D)
-    (same_setting : (s t : State) → goes_on s t → setting t ≡ setting s)
-    (still_fits : (s t : State) (v : V) → goes_on s t → fits s v → fits t v)
-    (still_stands : (s t : State) (v : V) → goes_on s t → fits s v → stands t v ≡ stands s v)
-    (s t : State) (goes : goes_on s t) (M : IsMonotone (framework (setting t)))
-    (nodes : List Node) (G : IsGraph nodes) (values : List (Option V)) (changes : List Change) (waiting : List Bool)
-    (course : IsCourse (framework (setting s)) (fits s) (stands s) nodes values changes waiting)
-    (from to : ℕ) (edge : IsSuccessor (graph_step nodes) from to) (moved : V) (is : IsMoved (framework (setting s)) (fits s) (stands s) values from moved)
-    (raised : Bool) (before slot : Option V) (found : before ≡ value_at values to) (got : IsReceived (framework (setting t)) (fits t) (stands t) before moved raised slot)
-    (after : List (Option V)) (leaves : after ≡ slice_set values to slot)
-    (new : List Change) (waits : List Bool) (noted : IsNoted raised from to changes waiting new waits) where
+-- the solver advances, and the edge is then clear
+pub record ComesAlong {Self V S : Type 0} (g : Ghosts Self V S) (nodes : List Node) (before : Self) (old : Work V)
+    (domain : Self) (new : Work V) (from to : ℕ) : Type 0 where
+  pub advances : Advances g nodes before old domain new
+  pub clear : IsClearAt g domain new from to
+
+module _ {Self V S : Type 0} (g : Ghosts Self V S) (before domain : Self) (later : IsLater g before domain)
+    (M : IsMonotone (framework_of g domain))
+    (nodes : List Node) (old new : Work V) (course : IsUnderWay g nodes before old)
+    (from to : ℕ) (edge : IsSuccessor (graph_step nodes) from to) (moved : V) (is : IsMovedFrom g before old from moved)
+    (raised : Bool) (was slot : Option V) (found : was ≡ value_at old.values.items to)
+    (got : Receives g domain was moved raised slot)
+    (leaves : new.values.items ≡ slice_set old.values.items to slot)
+    (noted : IsNoted raised from to old.changes.items old.waiting new.changes.items new.waiting) where
+  -- the framework
+  abbrev F : Framework g.Data
+  F = framework_of g domain
+
+  -- which values are fit
+  abbrev fits : V → Type 0
+  fits = fits_in g domain
+
+  -- what a value stands for
+  abbrev stands : V → g.Data
+  stands = data_in g domain
+
   -- what the slot got, at the node
-  got_there : IsReceived (framework (setting t)) (fits t) (stands t) (value_at values to) moved raised slot
-  got_there = subst (λ (o : Option V). IsReceived (framework (setting t)) (fits t) (stands t) o moved raised slot) found got
+  got_there : Receives g domain (value_at old.values.items to) moved raised slot
+  got_there = subst (λ (o : Option V). Receives g domain o moved raised slot) found got
 
-  -- what held before the domain went on still holds
-  course_then : IsCourse (framework (setting t)) (fits t) (stands t) nodes values changes waiting
-  course_then = course_later goes_on fits stands setting framework same_setting still_fits still_stands s t goes nodes values changes waiting course
+  -- the solver is still under way when the domain has gone on
+  course_then : IsUnderWay g nodes domain old
+  course_then = under_way_later g before domain later nodes old course
 
-  -- so does what was moved
-  moved_then : IsMoved (framework (setting t)) (fits t) (stands t) values from moved
-  moved_then = moved_later goes_on fits stands setting framework same_setting still_fits still_stands s t goes values course.fit from moved is
+  -- what was moved is so then, too
+  moved_then : IsMovedFrom g domain old from moved
+  moved_then = moved_later g before domain later nodes old course from moved is
 
-  -- the course goes on
-  pub course_came : IsCourse (framework (setting t)) (fits t) (stands t) nodes after new waits
-  course_came = subst (λ (vs : List (Option V)). IsCourse (framework (setting t)) (fits t) (stands t) nodes vs new waits) (sym leaves)
-      (course_carried (framework (setting t)) M (fits t) (stands t) nodes G values changes waiting course_then from to edge moved moved_then raised slot got_there new waits noted)
+  -- the solver is under way with what the slot got
+  course_came : IsUnderWay g nodes domain new
+  course_came =
+      subst (λ (vs : List (Option V)). IsCourse F fits stands nodes vs new.changes.items new.waiting) (sym leaves)
+      (course_carried F M fits stands nodes old.values.items old.changes.items old.waiting course_then
+      from to edge moved moved_then raised slot got_there new.changes.items new.waiting noted)
 
   -- the edge is clear
-  pub clear_along : IsClear (framework (setting t)) (data_of (stands t) after) waits from to
-  clear_along = subst (λ (vs : List (Option V)). IsClear (framework (setting t)) (data_of (stands t) vs) waits from to) (sym leaves)
-      (clear_carried (framework (setting t)) M (fits t) (stands t) nodes G values changes waiting course_then from to edge moved moved_then raised slot got_there new waits noted)
+  clear_along : IsClearAt g domain new from to
+  clear_along = subst (λ (vs : List (Option V)). IsClear F (data_of stands vs) new.waiting from to) (sym leaves)
+      (clear_carried F M fits stands nodes old.values.items old.changes.items old.waiting course_then
+      from to edge moved moved_then raised slot got_there new.changes.items new.waiting noted)
 
-  -- and the solver went on
-  pub progress_came : IsProgress (framework (setting s)) (data_of (stands s) values) changes waiting (framework (setting t)) (data_of (stands t) after) new waits
-  progress_came = subst (λ (vs : List (Option V)). IsProgress (framework (setting s)) (data_of (stands s) values) changes waiting (framework (setting t)) (data_of (stands t) vs) new waits) (sym leaves)
-      (progress_trans (framework (setting s)) (framework (setting t)) (framework (setting t)) (data_of (stands s) values) (data_of (stands t) values) (data_of (stands t) (slice_set values to slot)) changes changes new waiting waiting waits
-      (progress_stays (framework (setting s)) (framework (setting t)) (data_of (stands s) values) (data_of (stands t) values) changes waiting
-      (clear_later goes_on fits stands setting framework same_setting still_fits still_stands s t goes values waiting course.fit))
-      (progress_carried (framework (setting t)) M (fits t) (stands t) nodes G values changes waiting course_then from to edge moved moved_then raised slot got_there new waits noted))
+  -- the solver went on from the old work
+  progress_came : IsProgress F (held_in g domain old) old.changes.items old.waiting
+      F (held_in g domain new) new.changes.items new.waiting
+  progress_came = subst (λ (vs : List (Option V)). IsProgress F (held_in g domain old) old.changes.items old.waiting
+      F (data_of stands vs) new.changes.items new.waiting) (sym leaves)
+      (progress_carried F M fits stands nodes old.values.items old.changes.items old.waiting course_then
+      from to edge moved moved_then raised slot got_there new.changes.items new.waiting noted)
+
+  -- the solver advances, and the edge is clear
+  pub comes_along : ComesAlong g nodes before old domain new from to
+  comes_along = record {
+    advances = advances_trans g nodes before domain old old domain new
+        (advances_later g nodes before domain old later course)
+        (record { under_way = course_came; progress = progress_came });
+    clear = clear_along;
+  }

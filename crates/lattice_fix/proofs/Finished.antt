@@ -8,7 +8,7 @@ use Rattle.std.proofs.lemmas.Bool.{cases_eq}
 use Rattle.std.proofs.lemmas.List.{length-map}
 use Rattle.transition_spec.specs.Path.{IsSuccessor}
 use Rattle.path_model.specs.declared.graph.Node.{Node}
-use Rattle.path_model.specs.Graph.{IsGraph, graph_step}
+use Rattle.path_model.specs.Graph.{graph_step}
 use Rattle.lattice_fix.specs.declared.change.Change.{Change}
 use Rattle.lattice_fix.specs.Framework.{Framework, IsMonotone}
 use Rattle.lattice_fix.specs.Solution.{IsSolution, IsLeast}
@@ -26,8 +26,18 @@ mapped : {V D : Type 0} (f : V → D) (o : Option V) (x : D) → option_map f o 
 mapped f None x is = absurd (none-some x is)
 mapped f (Some v) x is = (v, refl)
 
-module _ {V D : Type 0} (F : Framework D) (M : IsMonotone F) (fits : V → Type 0) (stands : V → D) (nodes : List Node) (G : IsGraph nodes)
-    (values : List (Option V)) (changes : List Change) (waiting : List Bool) (course : IsCourse F fits stands nodes values changes waiting)
+-- the values are the least solution, and the changes replay to it
+pub record IsFinished {V D : Type 0} (F : Framework D) (fits : V → Type 0) (stands : V → D) (nodes : List Node)
+    (values : List (Option V)) (changes : List Change) : Type 0 where
+  pub filled : map Some (somes values) ≡ values
+  pub one_each : length (somes values) ≡ length nodes
+  pub least : IsLeast F nodes (map stands (somes values))
+  pub all_fit : All fits (somes values)
+  pub replay : Replays F nodes (nothing nodes) changes (map Some (map stands (somes values)))
+
+module _ {V D : Type 0} (F : Framework D) (M : IsMonotone F) (fits : V → Type 0) (stands : V → D) (nodes : List Node)
+    (values : List (Option V)) (changes : List Change) (waiting : List Bool)
+    (course : IsCourse F fits stands nodes values changes waiting)
     (settled : IsSettled F nodes (data_of stands values) waiting) (done : (n : ℕ) → IsDone waiting n) where
   -- each edge is met
   met : (n m : ℕ) → IsSuccessor (graph_step nodes) n m → IsMet F (data_of stands values) n m
@@ -37,12 +47,15 @@ module _ {V D : Type 0} (F : Framework D) (M : IsMonotone F) (fits : V → Type 
   has_below : (bound n : ℕ) → n < bound → n < length nodes → (x : D) × (value_at (data_of stands values) n ≡ Some x)
   has_below zero n small inside = absurd (omega arith)
   has_below (suc bound) n small inside = ⊎_elim
-      (λ (same : n ≡ 0). (course.begun.0, subst (λ (k : ℕ). value_at (data_of stands values) k ≡ Some course.begun.0) (sym same) course.begun.1))
+      (λ (same : n ≡ 0). (
+        course.begun.0,
+        subst (λ (k : ℕ). value_at (data_of stands values) k ≡ Some course.begun.0) (sym same) course.begun.1,
+      ))
       (λ (other : n ≢ 0).
       let first : 1 ≤ n = omega arith in
-      let before = G.reached n first inside in
+      let before = course.graph.reached n first inside in
       let smaller : before.0 < bound = omega (arith, before.1) in
-      let has = has_below bound before.0 smaller (edge_inside nodes G before.0 n before.2).0 in
+      let has = has_below bound before.0 smaller (edge_inside nodes course.graph before.0 n before.2).0 in
       let then = met before.0 n before.2 has.0 has.1 in
       (then.0, then.1))
       (cases_eq n 0)
@@ -55,11 +68,11 @@ module _ {V D : Type 0} (F : Framework D) (M : IsMonotone F) (fits : V → Type 
       mapped stands (value_at values n) x.0 (sym (data_at stands values n) ∙ x.1)
 
   -- each slot is filled
-  pub filled : map Some (somes values) ≡ values
+  filled : map Some (somes values) ≡ values
   filled = somes-filled values has
 
   -- there is one for each node
-  pub as_many : length (somes values) ≡ length nodes
+  as_many : length (somes values) ≡ length nodes
   as_many = length-somes values filled ∙ course.one_each
 
   -- what the values stand for
@@ -79,23 +92,33 @@ module _ {V D : Type 0} (F : Framework D) (M : IsMonotone F) (fits : V → Type 
   solution = record {
     one_each = length-map (somes values) stands ∙ as_many;
     within = λ n x is. replay_within F M nodes changes (data_of stands values) course.replay n x (at n x is);
-    starts = λ x is. subst (λ (y : D). F.below F.start y) (same_Some course.begun.0 x (sym course.begun.1 ∙ at 0 x is)) course.begun.2;
+    starts = λ x is.
+        let same : course.begun.0 ≡ x = same_Some course.begun.0 x (sym course.begun.1 ∙ at 0 x is) in
+        subst (λ (y : D). F.below F.start y) same course.begun.2;
     follows = λ n m x y edge is_x is_y.
         let then = met n m edge x (at n x is_x) in
         subst (λ (z : D). F.below (F.transfer n x) z) (same_Some then.0 y (sym then.1 ∙ at m y is_y)) then.2;
   }
 
   -- the least, since a replay stays below each solution
-  pub least : IsLeast F nodes before
+  least : IsLeast F nodes before
   least = record {
     solution = solution;
-    least = λ other sol n x y is_x is_y. replay_below F M nodes G other sol changes (data_of stands values) course.replay n x y (at n x is_x) is_y;
+    least = λ other sol n x y is_x is_y.
+        replay_below F M nodes course.graph other sol changes (data_of stands values) course.replay n x y
+        (at n x is_x) is_y;
   }
 
   -- the values are fit
-  pub all_fit : All fits (somes values)
-  all_fit = All-filled fits (somes values) (λ n v is. course.fit n v (ap (λ (w : List (Option V)). value_at w n) (sym filled) ∙ (value_at-filled (somes values) n ∙ is)))
+  all_fit : All fits (somes values)
+  all_fit = All-filled fits (somes values) (λ n v is.
+      let slots = ap (λ (w : List (Option V)). value_at w n) (sym filled) in
+      course.fit n v (slots ∙ (value_at-filled (somes values) n ∙ is)))
 
   -- and the changes replay to what they stand for
-  pub replays : Replays F nodes (nothing nodes) changes (map Some before)
+  replays : Replays F nodes (nothing nodes) changes (map Some before)
   replays = subst (λ (w : List (Option D)). Replays F nodes (nothing nodes) changes w) (sym same) course.replay
+
+  -- so the solver has finished
+  pub finished : IsFinished F fits stands nodes values changes
+  finished = record { filled = filled; one_each = as_many; least = least; all_fit = all_fit; replay = replays }

@@ -1,33 +1,53 @@
--- Steps of progress, one after another.
-use Rattle.std.proofs.Common.{◌≡◌, ℕ, Bool, List, length, Option, Result, Ok, Err, refl, ◌∙◌, arith}
+-- Advances of the solver, one after another.
+use Rattle.std.proofs.Common.{◌≡◌, List, length, Result, Ok, Err, refl, ◌∙◌, arith}
 use Rattle.std.specs.Result.{OnOk}
-use Rattle.lattice_fix.specs.declared.change.Change.{Change}
-use Rattle.lattice_fix.specs.Framework.{Framework}
-use Rattle.lattice_fix.specs.Course.{IsClear, IsProgress}
+use Rattle.path_model.specs.declared.graph.Node.{Node}
+use Rattle.lattice_fix.specs.declared.domain.Domain.{Ghosts}
+use Rattle.lattice_fix.specs.declared.solver.Work.{Work}
+use Rattle.lattice_fix.specs.UnderWay.{IsUnderWay, Advances}
+use Rattle.lattice_fix.proofs.Later.{IsLater, under_way_later, clear_later}
 
--- two steps are one
-pub progress_trans : {D : Type 0} (F G H : Framework D) (first second third : List (Option D)) (old mid new : List Change) (waited between waiting : List Bool) →
-    IsProgress F first old waited G second mid between → IsProgress G second mid between H third new waiting → IsProgress F first old waited H third new waiting
-progress_trans F G H first second third old mid new waited between waiting one two = record {
-  keeps = λ n m clear. two.keeps n m (one.keeps n m clear);
-  longer = omega (arith, one.longer, two.longer);
-  calm = λ same.
-      let half : length new ≡ length mid = omega (arith, one.longer, two.longer, same) in
-      let rest : length mid ≡ length old = omega (arith, half, same) in
-      two.calm half ∙ one.calm rest;
+module _ {Self V S : Type 0} (g : Ghosts Self V S) (nodes : List Node) (first second : Self) (old mid : Work V) where
+  -- two advances are one
+  pub advances_trans : (third : Self) (new : Work V) → Advances g nodes first old second mid →
+      Advances g nodes second mid third new → Advances g nodes first old third new
+  advances_trans third new one two = record {
+    under_way = two.under_way;
+    progress = record {
+      keeps = λ n m clear. two.progress.keeps n m (one.progress.keeps n m clear);
+      longer = omega (arith, one.progress.longer, two.progress.longer);
+      calm = λ same.
+          let half : length new.changes.items ≡ length mid.changes.items =
+          omega (arith, one.progress.longer, two.progress.longer, same) in
+          let rest : length mid.changes.items ≡ length old.changes.items = omega (arith, half, same) in
+          two.progress.calm half ∙ one.progress.calm rest;
+    };
+  }
+
+-- where only the domain went on the solver advances
+pub advances_later : {Self V S : Type 0} (g : Ghosts Self V S) (nodes : List Node) (old new : Self) (work : Work V) →
+    IsLater g old new → IsUnderWay g nodes old work → Advances g nodes old work new work
+advances_later g nodes old new work later course = record {
+  under_way = under_way_later g old new later nodes work course;
+  progress =
+      record { keeps = clear_later g old new later nodes work course; longer = omega arith; calm = λ same. refl };
 }
 
--- where only the domain went on
-pub progress_stays : {D : Type 0} (F G : Framework D) (before after : List (Option D)) (changes : List Change) (waiting : List Bool) →
-    ((n m : ℕ) → IsClear F before waiting n m → IsClear G after waiting n m) → IsProgress F before changes waiting G after changes waiting
-progress_stays F G before after changes waiting keeps = record { keeps = keeps; longer = omega arith; calm = λ same. refl }
+-- where nothing was done the solver advances
+pub advances_refl : {Self V S : Type 0} (g : Ghosts Self V S) (nodes : List Node) (domain : Self) (work : Work V) →
+    IsUnderWay g nodes domain work → Advances g nodes domain work domain work
+advances_refl g nodes domain work course = record {
+  under_way = course;
+  progress = record { keeps = λ n m clear. clear; longer = omega arith; calm = λ same. refl };
+}
 
--- what follows from two clauses on one outcome, or from three
+-- what follows from two clauses on one outcome
 pub OnOk-two : {T E P Q S : Type 0} (r : Result T E) → (P → Q → S) → OnOk r P → OnOk r Q → OnOk r S
 OnOk-two (Ok value) then p q = then p q
 OnOk-two (Err fault) then p q = tt
 
--- the same from three
-pub OnOk-three : {T E P Q R S : Type 0} (r : Result T E) → (P → Q → R → S) → OnOk r P → OnOk r Q → OnOk r R → OnOk r S
+-- what follows from three clauses on one outcome
+pub OnOk-three : {T E P Q R S : Type 0} (r : Result T E) → (P → Q → R → S) →
+    OnOk r P → OnOk r Q → OnOk r R → OnOk r S
 OnOk-three (Ok value) then p q s = then p q s
 OnOk-three (Err fault) then p q s = tt

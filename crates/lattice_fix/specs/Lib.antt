@@ -5,4 +5,5 @@ pub mod Solved
 pub mod Along
 pub mod Waits
 pub mod Course
+pub mod UnderWay
 pub mod Capped

@@ -7,7 +7,8 @@ ghost use Rattle.lattice_fix.specs.Solution.{IsLeast};
 ghost use Rattle.lattice_fix.specs.Replay.{Replays, nothing, value_at};
 ghost use Rattle.lattice_fix.specs.Solved.{IsCause};
 ghost use Rattle.lattice_fix.specs.declared.change.SolveFault.TheVariants.{OutOfMemory};
-ghost use Rattle.lattice_fix.specs.Course.{IsCourse, IsSettled, IsMoved, IsReceived, IsNoted, IsProgress, IsClear, data_of};
+ghost use Rattle.lattice_fix.specs.Course.{IsNoted};
+ghost use Rattle.lattice_fix.specs.UnderWay.{IsUnderWay, IsClearAt, AllAreClear, OthersAreClear, IsMovedFrom, Receives, GoesOn, Advances, IsOtherWithValue, OthersStay};
 ghost use Rattle.lattice_fix.specs.Waits.{IsDone};
 
 use crate::change::{Change, Solution, SolveFault};
@@ -64,12 +65,9 @@ fn begin<D: Domain>(
     domain: &mut D,
 ) -> Result<Work<D::Value>, SolveFault<D::Stop>>
     requires graph { IsGraph nodes.now }
-    ensures goes_on { D.goes_on (D.state domain.old) (D.state domain.new) }
-    ensures course { IfOk result (λ work. let s = D.state domain.new in
-        IsCourse (D.framework (D.setting s)) (D.fits s) (D.stands s) nodes.now work.values.items work.changes.items work.waiting) }
-    ensures settled { IfOk result (λ work. let s = D.state domain.new in
-        IsSettled (D.framework (D.setting s)) nodes.now (data_of (D.stands s) work.values.items) work.waiting) }
-    ensures stop { IfErr result (IsCause (D.licensed (D.state domain.new))) }
+    ensures domain { GoesOn D.Domain domain.old domain.new result }
+    ensures under_way { IfOk result (IsUnderWay D.Domain nodes.now domain.new) }
+    ensures settled { IfOk result (AllAreClear D.Domain nodes.now domain.new) }
 {
     let start = match domain.start() {
         Ok(start) => start,
@@ -121,18 +119,12 @@ fn work_off<D: Domain>(
     domain: &mut D,
     work: &mut Work<D::Value>,
 ) -> Result<(), SolveFault<D::Stop>>
-    requires graph { IsGraph nodes.now }
-    requires course { let s = D.state domain.old in
-        IsCourse (D.framework (D.setting s)) (D.fits s) (D.stands s) nodes.now work.old.values.items work.old.changes.items work.old.waiting }
-    requires settled { let s = D.state domain.old in
-        IsSettled (D.framework (D.setting s)) nodes.now (data_of (D.stands s) work.old.values.items) work.old.waiting }
-    ensures goes_on { D.goes_on (D.state domain.old) (D.state domain.new) }
-    ensures course { OnOk result (let s = D.state domain.new in
-        IsCourse (D.framework (D.setting s)) (D.fits s) (D.stands s) nodes.now work.new.values.items work.new.changes.items work.new.waiting) }
-    ensures settled { OnOk result (let s = D.state domain.new in
-        IsSettled (D.framework (D.setting s)) nodes.now (data_of (D.stands s) work.new.values.items) work.new.waiting) }
+    requires under_way { IsUnderWay D.Domain nodes.now domain.old work.old }
+    requires settled { AllAreClear D.Domain nodes.now domain.old work.old }
+    ensures domain { GoesOn D.Domain domain.old domain.new result }
+    ensures under_way { OnOk result (IsUnderWay D.Domain nodes.now domain.new work.new) }
+    ensures settled { OnOk result (AllAreClear D.Domain nodes.now domain.new work.new) }
     ensures done { OnOk result ((n : ℕ) → IsDone work.new.waiting n) }
-    ensures stop { IfErr result (IsCause (D.licensed (D.state domain.new))) }
 {
     while let Some(node) = work.waiting.take() {
         spread(nodes, domain, work, node)?;
@@ -147,22 +139,12 @@ fn spread<D: Domain>(
     work: &mut Work<D::Value>,
     node: u32,
 ) -> Result<(), SolveFault<D::Stop>>
-    requires graph { IsGraph nodes.now }
+    requires under_way { IsUnderWay D.Domain nodes.now domain.old work.old }
     requires inside { node < length nodes.now }
-    requires course { let s = D.state domain.old in
-        IsCourse (D.framework (D.setting s)) (D.fits s) (D.stands s) nodes.now
-        work.old.values.items work.old.changes.items work.old.waiting }
-    requires others { let s = D.state domain.old in (n m : ℕ) → n ≢ node → IsSuccessor (graph_step nodes.now) n m →
-        IsClear (D.framework (D.setting s)) (data_of (D.stands s) work.old.values.items) work.old.waiting n m }
-    ensures goes_on { D.goes_on (D.state domain.old) (D.state domain.new) }
-    ensures course { OnOk result (let s = D.state domain.new in
-        IsCourse (D.framework (D.setting s)) (D.fits s) (D.stands s) nodes.now
-        work.new.values.items work.new.changes.items work.new.waiting) }
-    ensures settled { OnOk result (let s = D.state domain.new in
-        IsSettled (D.framework (D.setting s)) nodes.now (data_of (D.stands s) work.new.values.items) work.new.waiting) }
-    ensures longer { OnOk result (vec_len work.old.changes ≤ vec_len work.new.changes) }
-    ensures calm { OnOk result (vec_len work.new.changes ≡ vec_len work.old.changes → work.new.waiting ≡ work.old.waiting) }
-    ensures stop { IfErr result (IsCause (D.licensed (D.state domain.new))) }
+    requires others { OthersAreClear D.Domain nodes.now domain.old work.old node }
+    ensures domain { GoesOn D.Domain domain.old domain.new result }
+    ensures advances { OnOk result (Advances D.Domain nodes.now domain.old work.old domain.new work.new) }
+    ensures settled { OnOk result (AllAreClear D.Domain nodes.now domain.new work.new) }
 {
     let here = nodes[node as usize];
     let Some(first) = here.first else {
@@ -184,26 +166,13 @@ fn fork<D: Domain>(
     first: u32,
     second: u32,
 ) -> Result<(), SolveFault<D::Stop>>
-    requires graph { IsGraph nodes.now }
+    requires under_way { IsUnderWay D.Domain nodes.now domain.old work.old }
     requires first { IsSuccessor (graph_step nodes.now) from first }
     requires second { IsSuccessor (graph_step nodes.now) from second }
-    requires course { let s = D.state domain.old in
-        IsCourse (D.framework (D.setting s)) (D.fits s) (D.stands s) nodes.now
-        work.old.values.items work.old.changes.items work.old.waiting }
-    ensures goes_on { D.goes_on (D.state domain.old) (D.state domain.new) }
-    ensures course { OnOk result (let s = D.state domain.new in
-        IsCourse (D.framework (D.setting s)) (D.fits s) (D.stands s) nodes.now
-        work.new.values.items work.new.changes.items work.new.waiting) }
-    ensures progress { OnOk result (let s = D.state domain.old in let t = D.state domain.new in
-        IsProgress (D.framework (D.setting s)) (data_of (D.stands s) work.old.values.items)
-        work.old.changes.items work.old.waiting
-        (D.framework (D.setting t)) (data_of (D.stands t) work.new.values.items)
-        work.new.changes.items work.new.waiting) }
-    ensures first { OnOk result (let s = D.state domain.new in
-        IsClear (D.framework (D.setting s)) (data_of (D.stands s) work.new.values.items) work.new.waiting from first) }
-    ensures second { OnOk result (let s = D.state domain.new in
-        IsClear (D.framework (D.setting s)) (data_of (D.stands s) work.new.values.items) work.new.waiting from second) }
-    ensures stop { IfErr result (IsCause (D.licensed (D.state domain.new))) }
+    ensures domain { GoesOn D.Domain domain.old domain.new result }
+    ensures advances { OnOk result (Advances D.Domain nodes.now domain.old work.old domain.new work.new) }
+    ensures first { OnOk result (IsClearAt D.Domain domain.new work.new from first) }
+    ensures second { OnOk result (IsClearAt D.Domain domain.new work.new from second) }
 {
     if is_other_with_value(&work.values, from, first) {
         return share(nodes, domain, work, from, first, second);
@@ -218,7 +187,7 @@ fn fork<D: Domain>(
 // The node is another one, and has a value.
 fn is_other_with_value<V>(values: &[Option<V>], from: u32, node: u32) -> bool
     requires { node < length values.now }
-    ensures { IsTrue result → (node ≢ from) × ((v : V) × (value_at values.now node ≡ Some v)) }
+    ensures { IsTrue result → IsOtherWithValue values.now from node }
 {
     node != from && values[node as usize].is_some()
 }
@@ -232,28 +201,14 @@ fn share<D: Domain>(
     other: u32,
     last: u32,
 ) -> Result<(), SolveFault<D::Stop>>
-    requires graph { IsGraph nodes.now }
+    requires under_way { IsUnderWay D.Domain nodes.now domain.old work.old }
     requires to_other { IsSuccessor (graph_step nodes.now) from other }
     requires to_last { IsSuccessor (graph_step nodes.now) from last }
-    requires course { let s = D.state domain.old in
-        IsCourse (D.framework (D.setting s)) (D.fits s) (D.stands s) nodes.now
-        work.old.values.items work.old.changes.items work.old.waiting }
-    requires apart { other ≢ from }
-    requires held { (v : D.Value) × (value_at work.old.values.items other ≡ Some v) }
-    ensures goes_on { D.goes_on (D.state domain.old) (D.state domain.new) }
-    ensures course { OnOk result (let s = D.state domain.new in
-        IsCourse (D.framework (D.setting s)) (D.fits s) (D.stands s) nodes.now
-        work.new.values.items work.new.changes.items work.new.waiting) }
-    ensures progress { OnOk result (let s = D.state domain.old in let t = D.state domain.new in
-        IsProgress (D.framework (D.setting s)) (data_of (D.stands s) work.old.values.items)
-        work.old.changes.items work.old.waiting
-        (D.framework (D.setting t)) (data_of (D.stands t) work.new.values.items)
-        work.new.changes.items work.new.waiting) }
-    ensures other { OnOk result (let s = D.state domain.new in
-        IsClear (D.framework (D.setting s)) (data_of (D.stands s) work.new.values.items) work.new.waiting from other) }
-    ensures last { OnOk result (let s = D.state domain.new in
-        IsClear (D.framework (D.setting s)) (data_of (D.stands s) work.new.values.items) work.new.waiting from last) }
-    ensures stop { IfErr result (IsCause (D.licensed (D.state domain.new))) }
+    requires held { IsOtherWithValue work.old.values.items from other }
+    ensures domain { GoesOn D.Domain domain.old domain.new result }
+    ensures advances { OnOk result (Advances D.Domain nodes.now domain.old work.old domain.new work.new) }
+    ensures other { OnOk result (IsClearAt D.Domain domain.new work.new from other) }
+    ensures last { OnOk result (IsClearAt D.Domain domain.new work.new from last) }
 {
     let Some(value) = &work.values[from as usize] else {
         return Ok(());
@@ -274,23 +229,11 @@ fn follow<D: Domain>(
     from: u32,
     to: u32,
 ) -> Result<(), SolveFault<D::Stop>>
-    requires graph { IsGraph nodes.now }
+    requires under_way { IsUnderWay D.Domain nodes.now domain.old work.old }
     requires edge { IsSuccessor (graph_step nodes.now) from to }
-    requires course { let s = D.state domain.old in
-        IsCourse (D.framework (D.setting s)) (D.fits s) (D.stands s) nodes.now
-        work.old.values.items work.old.changes.items work.old.waiting }
-    ensures goes_on { D.goes_on (D.state domain.old) (D.state domain.new) }
-    ensures course { OnOk result (let s = D.state domain.new in
-        IsCourse (D.framework (D.setting s)) (D.fits s) (D.stands s) nodes.now
-        work.new.values.items work.new.changes.items work.new.waiting) }
-    ensures progress { OnOk result (let s = D.state domain.old in let t = D.state domain.new in
-        IsProgress (D.framework (D.setting s)) (data_of (D.stands s) work.old.values.items)
-        work.old.changes.items work.old.waiting
-        (D.framework (D.setting t)) (data_of (D.stands t) work.new.values.items)
-        work.new.changes.items work.new.waiting) }
-    ensures clear { OnOk result (let s = D.state domain.new in
-        IsClear (D.framework (D.setting s)) (data_of (D.stands s) work.new.values.items) work.new.waiting from to) }
-    ensures stop { IfErr result (IsCause (D.licensed (D.state domain.new))) }
+    ensures domain { GoesOn D.Domain domain.old domain.new result }
+    ensures advances { OnOk result (Advances D.Domain nodes.now domain.old work.old domain.new work.new) }
+    ensures clear { OnOk result (IsClearAt D.Domain domain.new work.new from to) }
 {
     let Some(value) = &work.values[from as usize] else {
         return Ok(());
@@ -311,27 +254,14 @@ fn lend<D: Domain>(
     to: u32,
     moved: &D::Value,
 ) -> Result<(), SolveFault<D::Stop>>
-    requires graph { IsGraph nodes.now }
+    requires under_way { IsUnderWay D.Domain nodes.now domain.old work.old }
     requires edge { IsSuccessor (graph_step nodes.now) from to }
-    requires course { let s = D.state domain.old in
-        IsCourse (D.framework (D.setting s)) (D.fits s) (D.stands s) nodes.now
-        work.old.values.items work.old.changes.items work.old.waiting }
-    requires moved { let s = D.state domain.old in
-        IsMoved (D.framework (D.setting s)) (D.fits s) (D.stands s) work.old.values.items from moved.now }
+    requires moved { IsMovedFrom D.Domain domain.old work.old from moved.now }
     requires held { (v : D.Value) × (value_at work.old.values.items to ≡ Some v) }
-    ensures goes_on { D.goes_on (D.state domain.old) (D.state domain.new) }
-    ensures course { OnOk result (let s = D.state domain.new in
-        IsCourse (D.framework (D.setting s)) (D.fits s) (D.stands s) nodes.now
-        work.new.values.items work.new.changes.items work.new.waiting) }
-    ensures progress { OnOk result (let s = D.state domain.old in let t = D.state domain.new in
-        IsProgress (D.framework (D.setting s)) (data_of (D.stands s) work.old.values.items)
-        work.old.changes.items work.old.waiting
-        (D.framework (D.setting t)) (data_of (D.stands t) work.new.values.items)
-        work.new.changes.items work.new.waiting) }
-    ensures clear { OnOk result (let s = D.state domain.new in
-        IsClear (D.framework (D.setting s)) (data_of (D.stands s) work.new.values.items) work.new.waiting from to) }
-    ensures others { OnOk result ((n : ℕ) → n ≢ to → value_at work.new.values.items n ≡ value_at work.old.values.items n) }
-    ensures stop { IfErr result (IsCause (D.licensed (D.state domain.new))) }
+    ensures domain { GoesOn D.Domain domain.old domain.new result }
+    ensures advances { OnOk result (Advances D.Domain nodes.now domain.old work.old domain.new work.new) }
+    ensures clear { OnOk result (IsClearAt D.Domain domain.new work.new from to) }
+    ensures others { OnOk result (OthersStay work.old.values.items to work.new.values.items) }
 {
     match join(domain, &mut work.values[to as usize], moved) {
         Ok(raised) => note(work, from, to, raised),
@@ -348,25 +278,12 @@ fn give<D: Domain>(
     to: u32,
     moved: D::Value,
 ) -> Result<(), SolveFault<D::Stop>>
-    requires graph { IsGraph nodes.now }
+    requires under_way { IsUnderWay D.Domain nodes.now domain.old work.old }
     requires edge { IsSuccessor (graph_step nodes.now) from to }
-    requires course { let s = D.state domain.old in
-        IsCourse (D.framework (D.setting s)) (D.fits s) (D.stands s) nodes.now
-        work.old.values.items work.old.changes.items work.old.waiting }
-    requires moved { let s = D.state domain.old in
-        IsMoved (D.framework (D.setting s)) (D.fits s) (D.stands s) work.old.values.items from moved }
-    ensures goes_on { D.goes_on (D.state domain.old) (D.state domain.new) }
-    ensures course { OnOk result (let s = D.state domain.new in
-        IsCourse (D.framework (D.setting s)) (D.fits s) (D.stands s) nodes.now
-        work.new.values.items work.new.changes.items work.new.waiting) }
-    ensures progress { OnOk result (let s = D.state domain.old in let t = D.state domain.new in
-        IsProgress (D.framework (D.setting s)) (data_of (D.stands s) work.old.values.items)
-        work.old.changes.items work.old.waiting
-        (D.framework (D.setting t)) (data_of (D.stands t) work.new.values.items)
-        work.new.changes.items work.new.waiting) }
-    ensures clear { OnOk result (let s = D.state domain.new in
-        IsClear (D.framework (D.setting s)) (data_of (D.stands s) work.new.values.items) work.new.waiting from to) }
-    ensures stop { IfErr result (IsCause (D.licensed (D.state domain.new))) }
+    requires moved { IsMovedFrom D.Domain domain.old work.old from moved }
+    ensures domain { GoesOn D.Domain domain.old domain.new result }
+    ensures advances { OnOk result (Advances D.Domain nodes.now domain.old work.old domain.new work.new) }
+    ensures clear { OnOk result (IsClearAt D.Domain domain.new work.new from to) }
 {
     match receive(domain, &mut work.values[to as usize], moved) {
         Ok(raised) => note(work, from, to, raised),
@@ -405,8 +322,7 @@ fn receive<D: Domain>(
     requires slot { (v : D.Value) → slot.old ≡ Some v → D.fits (D.state domain.old) v }
     requires moved { D.fits (D.state domain.old) moved }
     ensures goes_on { D.goes_on (D.state domain.old) (D.state domain.new) }
-    ensures received { IfOk result (λ raised. let s = D.state domain.new in
-        IsReceived (D.framework (D.setting s)) (D.fits s) (D.stands s) slot.old moved raised slot.new) }
+    ensures received { IfOk result (λ raised. Receives D.Domain domain.new slot.old moved raised slot.new) }
     ensures stop { IfErr result (D.licensed (D.state domain.new)) }
 {
     match slot {
@@ -428,8 +344,7 @@ fn join<D: Domain>(
     requires slot { (v : D.Value) → slot.old ≡ Some v → D.fits (D.state domain.old) v }
     requires moved { D.fits (D.state domain.old) moved.now }
     ensures goes_on { D.goes_on (D.state domain.old) (D.state domain.new) }
-    ensures received { IfOk result (λ raised. let s = D.state domain.new in
-        IsReceived (D.framework (D.setting s)) (D.fits s) (D.stands s) slot.old moved.now raised slot.new) }
+    ensures received { IfOk result (λ raised. Receives D.Domain domain.new slot.old moved.now raised slot.new) }
     ensures stop { IfErr result (D.licensed (D.state domain.new)) }
 {
     match slot {

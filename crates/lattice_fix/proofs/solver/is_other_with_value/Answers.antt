@@ -10,6 +10,7 @@ there (Some v) some = (v, refl)
 
 pub returns-then-node-from : goal.returns-then-node-from
 returns-then-node-from g c = λ some.
-    let slot = get_or_read c.args.values.now c.args.node c.index-values-node.result c.requires c.index-values-node.is None in
-    let value = there c.index-values-node.result (subst IsTrue c.is_some.ensures some) in
-    (c.if-node-from.true, (value.0, sym slot ∙ value.1))
+    let read = c.index-values-node in
+    let slot = get_or_read c.args.values.now c.args.node read.result c.requires read.is None in
+    let value = there read.result (subst IsTrue c.is_some.ensures some) in
+    record { apart = c.if-node-from.true; held = (value.0, sym slot ∙ value.1) }
