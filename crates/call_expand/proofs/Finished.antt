@@ -4,7 +4,6 @@ use Rattle.std.specs.Prelude.{slice_get, Contains, Ok, IsSome, IfSome, IfNone, f
 use Rattle.std.specs.Result.{IsOkAnd}
 use Rattle.std.specs.List.{AllByRecursion, AllZip, list_all}
 use Rattle.std.specs.Option.{option_to_list}
-use Rattle.std.specs.BTreeMap.{BTreeMap}
 use Rattle.std.proofs.lemmas.Bool.Decides.{nat_tests}
 use Rattle.std.proofs.lemmas.List.{map-append, length-map, get_or-map, take_all, drop_all}
 use Rattle.std.proofs.lemmas.Option.{slice_get_within, get_or_from_slice_get}
@@ -26,7 +25,7 @@ use Rattle.call_expand.specs.declared.place.Place.{Place}
 use Rattle.call_expand.specs.declared.place.Edges.{Edges}
 use Rattle.call_expand.specs.Expansion.{numbered, IsNodeOf, IsGraphOf}
 use Rattle.call_expand.specs.Place.{configuration_at, configurations_at, IsPlace, places_of, IsEdge, AreExpanded}
-use Rattle.call_expand.specs.Numbers.{AreNumbers, HasNumber, IsNodeFor, AreNodesFor, AreAmong}
+use Rattle.call_expand.specs.Numbers.{AreApart, HasNumber, IsNodeFor, AreNodesFor, AreAmong}
 use Rattle.call_expand.specs.Search.{IsWalked, IsAt}
 use Rattle.call_expand.proofs.Zipped.{all-weaker, all-map, zip-length, zip-at}
 use Rattle.call_expand.proofs.Ordered.{place, same_place}
@@ -45,12 +44,10 @@ cells-none : AreCells []
 cells-none = record { below = λ k cell found. absurd (cc); alone = λ s t first second same. omega arith }
 
 -- the entry alone
-begin_at : (image : Image) (entry : ℕ) (numbers : BTreeMap (ℕ × ℕ) ℕ) → AreNumbers (place entry 0 ∷ []) numbers
-    → IsTrue (is_good_target image entry) → IsAt image entry [] (place entry 0 ∷ []) numbers [] 0
-begin_at image entry numbers are good = record {
+begin_at : (image : Image) (entry : ℕ) → IsTrue (is_good_target image entry) → IsAt image entry [] (place entry 0 ∷ []) [] 0
+begin_at image entry good = record {
   are_cells = cells-none;
   are_places = (record { known = omega arith; text = good-text image entry good }, tt);
-  are_numbers = are;
   within = omega arith;
   each = tt;
   room = omega arith;
@@ -58,15 +55,13 @@ begin_at image entry numbers are good = record {
 }
 
 -- the same, of what a call has made
-pub at_begin : (image : Image) (entry : ℕ) (cells : List StackCell) (places : List Place) (numbers : BTreeMap (ℕ × ℕ) ℕ) (edges : List Edges)
-    → cells ≡ [] → places ≡ place entry 0 ∷ [] → edges ≡ [] → AreNumbers places numbers → IsTrue (is_good_target image entry)
-    → IsAt image entry cells places numbers edges 0
-at_begin image entry cells places numbers edges no_cells one no_edges are good =
-    let P : List Place → Type 0 = λ places. AreNumbers places numbers in
-    let Q : List StackCell → Type 0 = λ cells. IsAt image entry cells places numbers edges 0 in
-    let R : List Place → Type 0 = λ places. IsAt image entry [] places numbers edges 0 in
-    let S : List Edges → Type 0 = λ edges. IsAt image entry [] (place entry 0 ∷ []) numbers edges 0 in
-    subst Q (sym no_cells) (subst R (sym one) (subst S (sym no_edges) (begin_at image entry numbers (subst P one are) good)))
+pub at_begin : (image : Image) (entry : ℕ) (cells : List StackCell) (places : List Place) (edges : List Edges) → cells ≡ []
+    → places ≡ place entry 0 ∷ [] → edges ≡ [] → IsTrue (is_good_target image entry) → IsAt image entry cells places edges 0
+at_begin image entry cells places edges no_cells one no_edges good =
+    let Q : List StackCell → Type 0 = λ cells. IsAt image entry cells places edges 0 in
+    let R : List Place → Type 0 = λ places. IsAt image entry [] places edges 0 in
+    let S : List Edges → Type 0 = λ edges. IsAt image entry [] (place entry 0 ∷ []) edges 0 in
+    subst Q (sym no_cells) (subst R (sym one) (subst S (sym no_edges) (begin_at image entry good)))
 
 -- two tests that hold, hold together
 both-true : (a b : Bool) → IsTrue a → IsTrue b → IsTrue (a && b)
@@ -150,8 +145,8 @@ module _ (step : Step) (image : Image) (cells : List StackCell) (all : List Plac
       both-true (is_fit (length all) node) (list_all (is_fit (length all)) nodes) here rest
 
 -- each node that is there has its successors among the nodes
-module _ (image : Image) (entry : ℕ) (cells : List StackCell) (places : List Place) (numbers : BTreeMap (ℕ × ℕ) ℕ) (edges : List Edges)
-    (at : IsAt image entry cells places numbers edges (length places)) where
+module _ {image : Image} {entry : ℕ} {cells : List StackCell} {places : List Place} {edges : List Edges}
+    (at : IsAt image entry cells places edges (length places)) where
   -- the configurations of all places
   abbrev all_configurations : List Configuration
   all_configurations = configurations_at cells places
@@ -209,104 +204,103 @@ module _ (image : Image) (entry : ℕ) (cells : List StackCell) (places : List P
       let Q : Place → Type 0 = λ p. Contains places p in
       subst Q one r.1)
 
-  -- no two configurations are equal
-  configurations_apart : (n m : ℕ) → n < length all_configurations → m < length all_configurations
-      → numbered all_configurations n ≡ numbered all_configurations m → n ≡ m
-  configurations_apart n m first second same =
-      let long : length all_configurations ≡ length places = length-map places (configuration_at cells) in
-      let p = found-inside places n (omega (arith, long)) in
-      let q = found-inside places m (omega (arith, long)) in
-      let are = sym (numbered-place cells places n p.0 p.1) ∙ same ∙ numbered-place cells places m q.0 q.1 in
-      let first_is = each-has (IsPlace image cells) places at.are_places p.0 (listed-at places n p.0 p.1) in
-      let second_is = each-has (IsPlace image cells) places at.are_places q.0 (listed-at places m q.0 q.1) in
-      let one : p.0 ≡ q.0 = same_place cells p.0 q.0 at.are_cells first_is.known second_is.known are in
-      let P : Place → Type 0 = λ p. slice_get places n ≡ Some p in
-      let number : Some n ≡ Some m =
-      sym (at.are_numbers.found n q.0 (subst P one p.1)) ∙ at.are_numbers.found m q.0 q.1 in
-      cc
-
-  module _ (nodes : List Node) (are : AreNodesFor places places edges nodes) where
-    -- the nodes are those of all configurations
-    nodes_of_all : AllZip (IsNodeOf (successors image entry) all_configurations) all_configurations nodes
-    nodes_of_all = nodes-are (successors image entry) image cells places places edges nodes each are
-
-    -- there is a node for each place
-    pub nodes_long : length nodes ≡ length places
-    nodes_long =
-        sym (zip-length (IsNodeOf (successors image entry) all_configurations) all_configurations nodes nodes_of_all)
-        ∙ length-map places (configuration_at cells)
-
-    -- all nodes are fit
-    all_fit : IsTrue (list_all (is_fit (length nodes)) nodes)
-    all_fit =
-        let P : ℕ → Type 0 = λ count. IsTrue (list_all (is_fit count) nodes) in
-        subst P (sym nodes_long) (nodes-fit (successors image entry) image cells places places edges nodes each are)
-
-    -- a successor of a configuration is the number of a successor of its node
-    back_to : (n m : ℕ) → n < length nodes → m < length nodes
-        → IsSuccessor (successors image entry) (numbered all_configurations n) (numbered all_configurations m) → IsSuccessor (graph_step nodes) n m
-    back_to n m first second follows =
-        let node = found-inside nodes n first in
+  module _ (apart : AreApart places) where
+    -- no two configurations are equal
+    configurations_apart : (n m : ℕ) → n < length all_configurations → m < length all_configurations
+        → numbered all_configurations n ≡ numbered all_configurations m → n ≡ m
+    configurations_apart n m first second same =
         let long : length all_configurations ≡ length places = length-map places (configuration_at cells) in
-        let P : Node → Type 0 = λ node. IsNodeOf (successors image entry) all_configurations (numbered all_configurations n) node in
-        let is = subst P (get_or_from_slice_get nodes n node.0 node.0 node.1)
-        (zip-at (IsNodeOf (successors image entry) all_configurations) all_configurations nodes n (start_of 0) node.0 nodes_of_all
-        (omega (arith, long, nodes_long, first))) in
-        let Q : Successors → Type 0 = λ r. IsOkAnd r (λ s. Contains s (numbered all_configurations m)) in
-        let k = from-map (numbered all_configurations) (links node.0.first node.0.second) (numbered all_configurations m) (subst Q is.goes follows) in
-        let R : Option Node → Type 0 = λ o. IsSuccessorBy o k.0 in
-        let to : IsSuccessor (graph_step nodes) n k.0 = subst R (sym node.1) k.1 in
-        let leads = node-from_successor nodes n k.0 to in
-        let below = below-from_fit (length nodes) k.0 leads.0 (fit_at nodes (length nodes) n leads.0 all_fit leads.1) leads.2 in
-        let one : k.0 ≡ m =
-        configurations_apart k.0 m (omega (arith, long, nodes_long, below)) (omega (arith, long, nodes_long, second)) k.2 in
-        let S : ℕ → Type 0 = λ m. IsSuccessor (graph_step nodes) n m in
-        subst S one to
+        let p = found-inside places n (omega (arith, long)) in
+        let q = found-inside places m (omega (arith, long)) in
+        let are = sym (numbered-place cells places n p.0 p.1) ∙ same ∙ numbered-place cells places m q.0 q.1 in
+        let first_is = each-has (IsPlace image cells) places at.are_places p.0 (listed-at places n p.0 p.1) in
+        let second_is = each-has (IsPlace image cells) places at.are_places q.0 (listed-at places m q.0 q.1) in
+        let one : p.0 ≡ q.0 = same_place cells p.0 q.0 at.are_cells first_is.known second_is.known are in
+        let P : Place → Type 0 = λ p. slice_get places n ≡ Some p in
+        apart n m q.0 (subst P one p.1) q.1
 
-    -- the nodes are a graph
-    pub is_graph : IsGraph nodes
-    is_graph =
-        let long : length all_configurations ≡ length places = length-map places (configuration_at cells) in
-        let joined : length (all_configurations ++ []) ≡ length nodes = ap length (append-nil all_configurations) ∙ long ∙ sym nodes_long in
-        record {
-          some = omega (arith, walked.some, joined);
-          few = omega (arith, walked.few, joined);
-          fit = all_fit;
-          reached = λ m one below.
-              let from = walked.follow_smaller m one (omega (arith, below, joined)) in
-              let P : List Configuration → Type 0 =
-              λ cs. IsSuccessor (successors image entry) (numbered cs from.0) (numbered cs m) in
-              (from.0, from.1, back_to from.0 m (omega (arith, from.1, below)) below (subst P (append-nil all_configurations) from.2));
-        }
+    module _ (nodes : List Node) (are : AreNodesFor places places edges nodes) where
+      -- the nodes are those of all configurations
+      nodes_of_all : AllZip (IsNodeOf (successors image entry) all_configurations) all_configurations nodes
+      nodes_of_all = nodes-are (successors image entry) image cells places places edges nodes each are
 
-    -- and the graph is that of all configurations
-    graph_of_all : IsGraphOf (successors image entry) entry all_configurations nodes
-    graph_of_all = record {
-      begins =
-          ap (λ (cs : List Configuration). numbered cs 0) (sym (append-nil all_configurations)) ∙ walked.begins;
-      each = nodes_of_all;
-      graph = is_graph;
-      apart = configurations_apart;
-    }
+      -- there is a node for each place
+      pub nodes_long : length nodes ≡ length places
+      nodes_long =
+          sym (zip-length (IsNodeOf (successors image entry) all_configurations) all_configurations nodes nodes_of_all)
+          ∙ length-map places (configuration_at cells)
 
-    -- the same, of what the calls have made
-    pub is_graph_of : (configurations : List Configuration) (graph : List Node) → configurations ≡ configurations_at cells places → graph ≡ nodes
-        → IsGraphOf (successors image entry) entry configurations graph
-    is_graph_of configurations graph same same_nodes =
-        let P : List Configuration → Type 0 = λ cs. IsGraphOf (successors image entry) entry cs graph in
-        let Q : List Node → Type 0 = λ nodes. IsGraphOf (successors image entry) entry all_configurations nodes in
-        subst P (sym same) (subst Q (sym same_nodes) graph_of_all)
+      -- all nodes are fit
+      all_fit : IsTrue (list_all (is_fit (length nodes)) nodes)
+      all_fit =
+          let P : ℕ → Type 0 = λ count. IsTrue (list_all (is_fit count) nodes) in
+          subst P (sym nodes_long) (nodes-fit (successors image entry) image cells places places edges nodes each are)
 
-    -- and the places and nodes belong together
-    pub are_expanded : (graph : List Node) → graph ≡ nodes → AreExpanded cells places graph
-    are_expanded graph same =
-        let P : List Node → Type 0 = IsGraph in
-        record {
-          known = all-weaker (IsPlace image cells) (λ p. p.stack ≤ length cells) (λ p is. is.known) places at.are_places;
-          are_cells = at.are_cells;
-          graph = subst P (sym same) is_graph;
-          as_many = ap length same ∙ nodes_long;
-        }
+      -- a successor of a configuration is the number of a successor of its node
+      back_to : (n m : ℕ) → n < length nodes → m < length nodes
+          → IsSuccessor (successors image entry) (numbered all_configurations n) (numbered all_configurations m) → IsSuccessor (graph_step nodes) n m
+      back_to n m first second follows =
+          let node = found-inside nodes n first in
+          let long : length all_configurations ≡ length places = length-map places (configuration_at cells) in
+          let P : Node → Type 0 = λ node. IsNodeOf (successors image entry) all_configurations (numbered all_configurations n) node in
+          let is = subst P (get_or_from_slice_get nodes n node.0 node.0 node.1)
+          (zip-at (IsNodeOf (successors image entry) all_configurations) all_configurations nodes n (start_of 0) node.0 nodes_of_all
+          (omega (arith, long, nodes_long, first))) in
+          let Q : Successors → Type 0 = λ r. IsOkAnd r (λ s. Contains s (numbered all_configurations m)) in
+          let k = from-map (numbered all_configurations) (links node.0.first node.0.second) (numbered all_configurations m) (subst Q is.goes follows) in
+          let R : Option Node → Type 0 = λ o. IsSuccessorBy o k.0 in
+          let to : IsSuccessor (graph_step nodes) n k.0 = subst R (sym node.1) k.1 in
+          let leads = node-from_successor nodes n k.0 to in
+          let below = below-from_fit (length nodes) k.0 leads.0 (fit_at nodes (length nodes) n leads.0 all_fit leads.1) leads.2 in
+          let one : k.0 ≡ m =
+          configurations_apart k.0 m (omega (arith, long, nodes_long, below)) (omega (arith, long, nodes_long, second)) k.2 in
+          let S : ℕ → Type 0 = λ m. IsSuccessor (graph_step nodes) n m in
+          subst S one to
+
+      -- the nodes are a graph
+      pub is_graph : IsGraph nodes
+      is_graph =
+          let long : length all_configurations ≡ length places = length-map places (configuration_at cells) in
+          let joined : length (all_configurations ++ []) ≡ length nodes = ap length (append-nil all_configurations) ∙ long ∙ sym nodes_long in
+          record {
+            some = omega (arith, walked.some, joined);
+            few = omega (arith, walked.few, joined);
+            fit = all_fit;
+            reached = λ m one below.
+                let from = walked.follow_smaller m one (omega (arith, below, joined)) in
+                let P : List Configuration → Type 0 =
+                λ cs. IsSuccessor (successors image entry) (numbered cs from.0) (numbered cs m) in
+                (from.0, from.1, back_to from.0 m (omega (arith, from.1, below)) below (subst P (append-nil all_configurations) from.2));
+          }
+
+      -- and the graph is that of all configurations
+      graph_of_all : IsGraphOf (successors image entry) entry all_configurations nodes
+      graph_of_all = record {
+        begins =
+            ap (λ (cs : List Configuration). numbered cs 0) (sym (append-nil all_configurations)) ∙ walked.begins;
+        each = nodes_of_all;
+        graph = is_graph;
+        apart = configurations_apart;
+      }
+
+      -- the same, of what the calls have made
+      pub is_graph_of : (configurations : List Configuration) (graph : List Node) → configurations ≡ configurations_at cells places → graph ≡ nodes
+          → IsGraphOf (successors image entry) entry configurations graph
+      is_graph_of configurations graph same same_nodes =
+          let P : List Configuration → Type 0 = λ cs. IsGraphOf (successors image entry) entry cs graph in
+          let Q : List Node → Type 0 = λ nodes. IsGraphOf (successors image entry) entry all_configurations nodes in
+          subst P (sym same) (subst Q (sym same_nodes) graph_of_all)
+
+      -- and the places and nodes belong together
+      pub are_expanded : (graph : List Node) → graph ≡ nodes → AreExpanded cells places graph
+      are_expanded graph same =
+          let P : List Node → Type 0 = IsGraph in
+          record {
+            known = all-weaker (IsPlace image cells) (λ p. p.stack ≤ length cells) (λ p is. is.known) places at.are_places;
+            are_cells = at.are_cells;
+            graph = subst P (sym same) is_graph;
+            as_many = ap length same ∙ nodes_long;
+          }
 
 -- there is a value, where a property of none can't hold
 pub some-from : {X A : Type 0} (o : Option X) → IfNone o (A → ⊥) → A → IsSome o

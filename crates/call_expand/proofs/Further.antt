@@ -3,7 +3,6 @@ use Rattle.std.proofs.Common.{◌≡◌, ℕ, ◌+◌, ◌<◌, ◌≤◌, inl, 
 use Rattle.std.specs.Prelude.{flat_map}
 use Rattle.std.specs.List.{AllByRecursion, AllZip}
 use Rattle.std.specs.List.Sorted.{IsPermutation, IsSorted}
-use Rattle.std.specs.BTreeMap.{BTreeMap}
 use Rattle.std.proofs.lemmas.List.{map-append, length-map, length-take-le, take_at, drop_at}
 use Rattle.elf_spec.specs.Image.{Image}
 use Rattle.flow_spec.specs.Acceptance.{Step, IsFaultless, IsRefused, fetch_limit}
@@ -17,7 +16,7 @@ use Rattle.frame_stacks.specs.Stacks.{AreCells}
 use Rattle.call_expand.specs.declared.place.Place.{Place}
 use Rattle.call_expand.specs.declared.place.Edges.{Edges}
 use Rattle.call_expand.specs.Place.{configuration_at, configurations_at, place_cmp, IsPlace, ArePlaces, GoesOn, places_of, IsEdge, FailsAt, AreAllFollowed}
-use Rattle.call_expand.specs.Numbers.{AreNumbers, AreNew, AreNumbered}
+use Rattle.call_expand.specs.Numbers.{AreNew, AreNumbered}
 use Rattle.call_expand.specs.Search.{IsWalked, IsAt, AreNext}
 use Rattle.call_expand.proofs.Zipped.{all-weaker, all-append, all-front, all-back, zip-length, zip-append, zip-weaker}
 use Rattle.call_expand.proofs.Walked.{faulty, too_many, walked_more}
@@ -35,8 +34,8 @@ walked-same step image entry before after first last goes_on are_first are_last 
     subst Q (sym (same-configurations image before after last goes_on are_last))
     (subst P (sym (same-configurations image before after first goes_on are_first)) walked)
 
-module _ (image : Image) (entry : ℕ) (cells : List StackCell) (places : List Place) (numbers : BTreeMap (ℕ × ℕ) ℕ) (edges : List Edges) (start : ℕ)
-    (at : IsAt image entry cells places numbers edges start) where
+module _ {image : Image} {entry : ℕ} {cells : List StackCell} {places : List Place} {edges : List Edges} {start : ℕ}
+    (at : IsAt image entry cells places edges start) where
   -- the places before the layer, and those of the layer
   cut : take start places ++ drop start places ≡ places
   cut = take-append-drop start places
@@ -66,11 +65,14 @@ module _ (image : Image) (entry : ℕ) (cells : List StackCell) (places : List P
       )
 
   -- a fault of the layer refuses the program
-  pub refused_here : (fault : FlowFault) → FailsAt (successors image entry) (configurations_at cells (drop start places)) fault
+  pub refused_here : {seen : List Place} → seen ≡ places → (fault : FlowFault)
+      → FailsAt (successors image entry) (configurations_at cells (drop start seen)) fault
       → IsRefused (successors image entry) image entry fault
-  refused_here fault fails =
+  refused_here same fault fails =
+      let P : List Place → Type 0 =
+      λ ps. FailsAt (successors image entry) (configurations_at cells (drop start ps)) fault in
       inr (inl (faulty (successors image entry) image entry (configurations_at cells (take start places))
-      (configurations_at cells (drop start places)) at.walked fault fails))
+      (configurations_at cells (drop start places)) at.walked fault (subst P same fails)))
 
   module _ (after : List StackCell) (more : List Edges) (found new : List Place) (goes_on : GoesOn cells after) (are_cells : AreCells after)
       (each : AllZip (IsEdge (successors image entry) image after) (drop start places) more)
@@ -121,10 +123,9 @@ module _ (image : Image) (entry : ℕ) (cells : List StackCell) (places : List P
         (configurations_at after (drop start places)) walked (configurations_at after new) faultless next (omega (arith, many, as_many))))
 
     -- else the search is at it
-    pub at_next : (after_numbers : BTreeMap (ℕ × ℕ) ℕ) → AreNumbers (places ++ new) after_numbers
-        → length after ≤ length cells + length (drop start places) → length (places ++ new) ≤ fetch_limit
-        → IsAt image entry after (places ++ new) after_numbers (edges ++ more) (length places)
-    at_next after_numbers are_numbers room few =
+    pub at_next : length after ≤ length cells + length (drop start places) → length (places ++ new) ≤ fetch_limit
+        → IsAt image entry after (places ++ new) (edges ++ more) (length places)
+    at_next room few =
         let Each : List Place → Type 0 = λ ps. AllZip (IsEdge (successors image entry) image after) ps (edges ++ more) in
         let front : take (length places) (places ++ new) ≡ places = take_at places new (length places) refl in
         let back : drop (length places) (places ++ new) ≡ new = drop_at places new (length places) refl in
@@ -139,7 +140,6 @@ module _ (image : Image) (entry : ℕ) (cells : List StackCell) (places : List P
               (all-weaker (IsPlace image cells) (IsPlace image after) (same-place image cells after goes_on) places at.are_places)
               (are_new (successors image entry) image after (take start places) (drop start places) more found new are_cells still_first still_last
               each same sorted are_cut);
-          are_numbers = are_numbers;
           within = omega (arith, length-append places new);
           each =
               subst Each (cut ∙ sym front)
@@ -156,7 +156,7 @@ module _ (image : Image) (entry : ℕ) (cells : List StackCell) (places : List P
         }
 
   -- the layer is followed, from places that are those so far
-  module _ (seen : List Place) (seen_is : seen ≡ places) (after : List StackCell) (after_edges : List Edges)
+  module _ {seen : List Place} (seen_is : seen ≡ places) {after : List StackCell} {after_edges : List Edges}
       (seen_followed : AreAllFollowed (successors image entry) image cells after (drop start seen) edges after_edges) where
     -- the same, of the places so far
     followed : AreAllFollowed (successors image entry) image cells after (drop start places) edges after_edges
@@ -183,8 +183,8 @@ module _ (image : Image) (entry : ℕ) (cells : List StackCell) (places : List P
         )
 
     -- and the next one is numbered, from edges that are those
-    module _ (seen_edges : List Edges) (seen_edges_are : seen_edges ≡ after_edges) (after_places : List Place) (are_cells : AreCells after)
-        (numbered : AreNumbered after (drop start seen_edges) places after_places) where
+    module _ {seen_edges : List Edges} (seen_edges_are : seen_edges ≡ after_edges) {after_places : List Place}
+        (are_cells : AreCells after) (numbered : AreNumbered after (drop start seen_edges) places after_places) where
       -- the edges of the layer
       new_edges : drop start seen_edges ≡ followed.more
       new_edges = ap (drop start) (seen_edges_are ∙ followed.is) ∙ drop_at edges followed.more start edges-long
@@ -201,13 +201,11 @@ module _ (image : Image) (entry : ℕ) (cells : List StackCell) (places : List P
           (omega (arith, many, ap length numbered.is))
 
       -- or the search is at the next layer
-      pub layer_next : (after_numbers : BTreeMap (ℕ × ℕ) ℕ) → AreNumbers after_places after_numbers → length after_places ≤ fetch_limit
-          → IsAt image entry after after_places after_numbers after_edges (length places)
-      layer_next after_numbers are_numbers few =
-          let P : List Place → Type 0 = λ ps. AreNumbers ps after_numbers in
-          let Q : List Place → Type 0 = λ ps. IsAt image entry after ps after_numbers after_edges (length places) in
-          let R : List Edges → Type 0 = λ es. IsAt image entry after (places ++ numbered.new) after_numbers es (length places) in
+      pub layer_next : length after_places ≤ fetch_limit → IsAt image entry after after_places after_edges (length places)
+      layer_next few =
+          let Q : List Place → Type 0 = λ ps. IsAt image entry after ps after_edges (length places) in
+          let R : List Edges → Type 0 = λ es. IsAt image entry after (places ++ numbered.new) es (length places) in
           subst Q (sym numbered.is)
           (subst R (sym followed.is)
-          (at_next after followed.more numbered.found numbered.new followed.goes_on are_cells followed.each same_more numbered.sorted numbered.are
-          after_numbers (subst P numbered.is are_numbers) followed.few (omega (arith, few, ap length numbered.is))))
+          (at_next after followed.more numbered.found numbered.new followed.goes_on are_cells followed.each same_more numbered.sorted
+          numbered.are followed.few (omega (arith, few, ap length numbered.is))))

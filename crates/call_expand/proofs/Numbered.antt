@@ -14,7 +14,7 @@ use Rattle.path_model.specs.declared.graph.Node.{Node}
 use Rattle.call_expand.specs.declared.place.Place.{Place}
 use Rattle.call_expand.specs.declared.place.Edges.{Edges}
 use Rattle.call_expand.specs.Place.{places_of}
-use Rattle.call_expand.specs.Numbers.{pair_cmp, AreNumbers, AreNew, IsAdded, IsNodeFor, AreNodesFor, AreAmong}
+use Rattle.call_expand.specs.Numbers.{pair_cmp, AreApart, AreNumbers, AreNew, IsAdded, IsNodeFor, AreNodesFor, AreAmong}
 use Rattle.call_expand.proofs.Zipped.{all-front, all-back}
 use Rattle.call_expand.proofs.Ordered.{place-parts, then_equal, nat_equal}
 
@@ -113,36 +113,38 @@ numbers-push places before after p number is_length are new updates = record {
       (bool-cases (is_eq (pair_cmp (p.at, p.stack) (q.at, q.stack))));
 }
 
--- the first i of the found places are numbered: those so far new stand behind the places of the beginning
-pub record AreAdded (initial : List Place) (found : List Place) (i : ℕ) (now : List Place) (numbers : Numbers) : Type 0 where
+-- no place has two numbers
+pub apart-numbers : (places : List Place) (numbers : Numbers) → AreNumbers places numbers → AreApart places
+apart-numbers places numbers are n m p first second =
+    let same : Some n ≡ Some m = sym (are.found n p first) ∙ are.found m p second in cc
+
+-- the first i of the found places are added: those so far new stand behind the places of the beginning
+pub record AreAdded (initial : List Place) (found : List Place) (i : ℕ) (now : List Place) : Type 0 where
   pub more : List Place
   pub is : now ≡ initial ++ more
   pub few : length now ≤ length initial + i
-  pub numbered : AreNumbers now numbers
   pub rest : (rest : List Place) → AreNew now (drop i found) rest → AreNew initial found (more ++ rest)
 
 -- one place more
-pub added-more : (initial found : List Place) (i : ℕ) (now after : List Place) (before numbers : Numbers) (p d : Place) → i < length found → p ≡ get_or found i d
-    → AreAdded initial found i now before → AreNumbers after numbers → IsAdded now p after → AreAdded initial found (i + 1) after numbers
-added-more initial found i now after before numbers p d within here added are (inl old) =
+pub added-more : (initial found : List Place) (i : ℕ) (now after : List Place) (p d : Place) → i < length found → p ≡ get_or found i d
+    → AreAdded initial found i now → IsAdded now p after → AreAdded initial found (i + 1) after
+added-more initial found i now after p d within here added (inl old) =
     let next : drop i found ≡ p ∷ drop (i + 1) found = drop_more found i d within ∙ ap (λ p. p ∷ drop (i + 1) found) (sym here) in
     record {
       more = added.more;
       is = old.1 ∙ added.is;
       few = omega (arith, ap length old.1, added.few);
-      numbered = are;
       rest = λ rest new.
           let P : List Place → Type 0 = λ places. AreNew now places rest in
           let Q : List Place → Type 0 = λ seen. AreNew seen (drop (i + 1) found) rest in
           added.rest rest (subst P (sym next) (inl (old.0, subst Q old.1 new)));
     }
-added-more initial found i now after before numbers p d within here added are (inr fresh) =
+added-more initial found i now after p d within here added (inr fresh) =
     let next : drop i found ≡ p ∷ drop (i + 1) found = drop_more found i d within ∙ ap (λ p. p ∷ drop (i + 1) found) (sym here) in
     record {
       more = added.more ++ p ∷ [];
       is = fresh.1 ∙ ap (λ ps. ps ++ p ∷ []) added.is ∙ append_assoc initial added.more (p ∷ []);
       few = omega (arith, ap length fresh.1, length_push now p, added.few);
-      numbered = are;
       rest = λ rest new.
           let P : List Place → Type 0 = λ places. AreNew now places (p ∷ rest) in
           let Q : List Place → Type 0 = λ seen. AreNew seen (drop (i + 1) found) rest in
@@ -152,9 +154,9 @@ added-more initial found i now after before numbers p d within here added are (i
     }
 
 -- all places are added
-pub added-all : (initial found : List Place) (now : List Place) (numbers : Numbers) (i : ℕ) → length found ≤ i → AreAdded initial found i now numbers
+pub added-all : (initial found now : List Place) (i : ℕ) → length found ≤ i → AreAdded initial found i now
     → (more : List Place) × (now ≡ initial ++ more) × AreNew initial found more
-added-all initial found now numbers i past added =
+added-all initial found now i past added =
     let P : List Place → Type 0 = λ places. AreNew now places [] in
     let Q : List Place → Type 0 = λ more. AreNew initial found more in
     (added.more, added.is, subst Q (append-nil added.more) (added.rest [] (subst P (sym (drop_all i found past)) refl)))

@@ -20,6 +20,10 @@ pub record AreNumbers (places : List Place) (numbers : BTreeMap (ℕ × ℕ) ℕ
   pub found : (n : ℕ) (place : Place) → slice_get places n ≡ Some place → get pair_cmp numbers (place.at, place.stack) ≡ Some n
   pub only : (n : ℕ) (place : Place) → get pair_cmp numbers (place.at, place.stack) ≡ Some n → slice_get places n ≡ Some place
 
+-- no place stands twice
+abbrev pub AreApart : List Place → Type 0
+AreApart places = (n m : ℕ) (place : Place) → slice_get places n ≡ Some place → slice_get places m ≡ Some place → n ≡ m
+
 -- the place was listed before, or is so now, behind the others
 abbrev pub IsAdded : List Place → Place → List Place → Type 0
 IsAdded before place after = (Contains before place × (after ≡ before)) ⊎ ((Contains before place → ⊥) × (after ≡ before ++ place ∷ []))

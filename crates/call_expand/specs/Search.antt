@@ -10,12 +10,10 @@ use Rattle.flow_spec.specs.Transfer.{is_good_target}
 use Rattle.flow_spec.specs.Acceptance.{Step, AreLayers, IsFaultless, fetch_limit}
 use Rattle.flow_spec.specs.Successors.{successors}
 use Rattle.flow_spec.specs.Configuration.{Configuration, start_of}
-use Rattle.std.specs.BTreeMap.{BTreeMap}
 use Rattle.frame_stacks.specs.declared.stacks.StackCell.{StackCell}
 use Rattle.frame_stacks.specs.Stacks.{AreCells}
 use Rattle.call_expand.specs.Expansion.{numbered}
 use Rattle.call_expand.specs.Place.{configurations_at, ArePlaces, IsEdge}
-use Rattle.call_expand.specs.Numbers.{AreNumbers}
 use Rattle.call_expand.specs.declared.place.Place.{Place}
 use Rattle.call_expand.specs.declared.place.Edges.{Edges}
 use Rattle.call_expand.specs.declared.search.Search.{Search}
@@ -53,10 +51,9 @@ pub record IsWalked (step : Step) (image : Image) (entry : ℕ) (before last : L
   pub few : length (before ++ last) ≤ fetch_limit
 
 -- the search is at the layer that begins with this number
-pub record IsAt (image : Image) (entry : ℕ) (cells : List StackCell) (places : List Place) (numbers : BTreeMap (ℕ × ℕ) ℕ) (edges : List Edges) (start : ℕ) : Type 0 where
+pub record IsAt (image : Image) (entry : ℕ) (cells : List StackCell) (places : List Place) (edges : List Edges) (start : ℕ) : Type 0 where
   pub are_cells : AreCells cells
   pub are_places : ArePlaces image cells places
-  pub are_numbers : AreNumbers places numbers
   pub within : start ≤ length places
   pub each : AllZip (IsEdge (successors image entry) image cells) (take start places) edges
   pub room : length cells ≤ start
@@ -65,4 +62,4 @@ pub record IsAt (image : Image) (entry : ℕ) (cells : List StackCell) (places :
 -- the same, of all that a search has
 abbrev pub IsSearchAt : Image → ℕ → Search → ℕ → Type 0
 IsSearchAt image entry search start =
-    IsAt image entry search.stacks search.known.places.items search.known.numbers search.edges.items start
+    IsAt image entry search.stacks search.known search.edges.items start

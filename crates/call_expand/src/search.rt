@@ -11,7 +11,7 @@ ghost use Rattle.flow_spec.specs.Acceptance.{IsAccepted, IsRefused};
 ghost use Rattle.frame_stacks.specs.Stacks.{AreCells, frames_of};
 ghost use Rattle.call_expand.specs.Expansion.{IsGraphOf};
 ghost use Rattle.call_expand.specs.Place.{place_cmp, places_of};
-ghost use Rattle.call_expand.specs.Numbers.{AreNumbers, AreNodesFor, IsNodeFor, HasNumber, AreAmong, AreNumbered};
+ghost use Rattle.call_expand.specs.Numbers.{AreNodesFor, IsNodeFor, HasNumber, AreAmong, AreNumbered};
 ghost use Rattle.call_expand.specs.Search.{IsSearchAt};
 
 use crate::Expanded;
@@ -58,8 +58,8 @@ pub fn expand(alloc: Global, image: &Image, entry: u32) -> Result<Expanded, Flow
     }
     let mut search = begin(alloc, image, entry)?;
     let mut start = 0;
-    while start < search.known.places.len() {
-        let end = search.known.places.len();
+    while start < search.known.places().len() {
+        let end = search.known.places().len();
         next_layer(alloc, image, entry, &mut search, start)?;
         start = end;
     }
@@ -91,8 +91,8 @@ fn next_layer(
     start: usize,
 ) -> Result<(), FlowFault>
     requires at { IsSearchAt image.now entry search.old start }
-    requires some { start < length search.old.known.places.items }
-    ensures at { OnOk result (IsSearchAt image.now entry search.new (length search.old.known.places.items)) }
+    requires some { start < length search.old.known }
+    ensures at { OnOk result (IsSearchAt image.now entry search.new (length search.old.known)) }
     ensures refused { IfErr result (λ fault. (fault ≡ FlowFault.OutOfMemory)
         ⊎ IsRefused (successors image.now entry) image.now entry fault) }
 {
@@ -101,9 +101,9 @@ fn next_layer(
         known,
         edges,
     } = search;
-    follow_from(image, entry, stacks, &known.places, start, edges)?;
+    follow_from(image, entry, stacks, known.places(), start, edges)?;
     number_from(alloc, stacks, edges, start, known)?;
-    if known.places.len() > LIMIT as usize {
+    if known.places().len() > LIMIT as usize {
         return Err(FlowFault::TooManyFetches { limit: LIMIT });
     }
     Ok(())
@@ -118,10 +118,8 @@ fn number_from(
     known: &mut Known,
 ) -> Result<(), AllocError>
     requires within { start ≤ length edges.now }
-    requires numbers { AreNumbers known.old.places.items known.old.numbers }
-    requires room { length known.old.places.items + 2 * length edges.now < 2 ^ 32 }
-    ensures numbered { OnOk result (AreNumbered stacks.now (drop start edges.now) known.old.places.items known.new.places.items) }
-    ensures numbers { OnOk result (AreNumbers known.new.places.items known.new.numbers) }
+    requires room { length known.old + 2 * length edges.now < 2 ^ 32 }
+    ensures numbered { OnOk result (AreNumbered stacks.now (drop start edges.now) known.old known.new) }
     ensures cells { OnOk result (AreCells stacks.now) }
 {
     let mut found = found_from(alloc, edges, start)?;
@@ -190,7 +188,7 @@ fn stack_of(stacks: &Stacks, place: Place) -> u32
 }
 
 fn finish(alloc: Global, image: &Image, entry: u32, search: Search) -> Result<Expanded, AllocError>
-    requires { IsSearchAt image.now entry search (length search.known.places.items) }
+    requires { IsSearchAt image.now entry search (length search.known) }
     ensures accepted { IfOk result (λ expanded. (layers : List (List Configuration))
         × IsAccepted (successors image.now entry) image.now entry layers
         × (expanded.configurations ≡ all_of layers)) }
@@ -204,28 +202,27 @@ fn finish(alloc: Global, image: &Image, entry: u32, search: Search) -> Result<Ex
         edges,
     } = search;
     let nodes = nodes_of(alloc, &known, &edges)?;
+    let places = known.into_places();
     let graph = Graph::new(nodes).unwrap();
-    Ok(Expanded::new(graph, known.places, stacks))
+    Ok(Expanded::new(graph, places, stacks))
 }
 
 fn nodes_of(alloc: Global, known: &Known, edges: &[Edges]) -> Result<Vec<Node>, AllocError>
-    requires numbers { AreNumbers known.now.places.items known.now.numbers }
-    requires each { length edges.now ≡ length known.now.places.items }
-    requires among { AreAmong known.now.places.items (flat_map places_of edges.now) }
-    ensures { IfOk result (λ nodes.
-        AreNodesFor known.now.places.items known.now.places.items edges.now nodes.items) }
+    requires each { length edges.now ≡ length known.now }
+    requires among { AreAmong known.now (flat_map places_of edges.now) }
+    ensures { IfOk result (λ nodes. AreNodesFor known.now known.now edges.now nodes.items) }
 {
+    let places = known.places();
     let mut nodes = Vec::with_capacity(alloc, edges.len())?;
     for index in 0..edges.len() {
-        nodes.push(node_of(known, known.places[index], edges[index]))?;
+        nodes.push(node_of(known, places[index], edges[index]))?;
     }
     Ok(nodes)
 }
 
 fn node_of(known: &Known, place: Place, edges: Edges) -> Node
-    requires numbers { AreNumbers known.now.places.items known.now.numbers }
-    requires among { AreAmong known.now.places.items (places_of edges) }
-    ensures { IsNodeFor known.now.places.items place edges result }
+    requires among { AreAmong known.now (places_of edges) }
+    ensures { IsNodeFor known.now place edges result }
 {
     Node {
         at: place.at,
@@ -235,9 +232,8 @@ fn node_of(known: &Known, place: Place, edges: Edges) -> Node
 }
 
 fn number_of(known: &Known, place: Option<Place>) -> Option<u32>
-    requires numbers { AreNumbers known.now.places.items known.now.numbers }
-    requires among { AreAmong known.now.places.items (option_to_list place) }
-    ensures { HasNumber known.now.places.items place result }
+    requires among { AreAmong known.now (option_to_list place) }
+    ensures { HasNumber known.now place result }
 {
     known.number_of(place?)
 }

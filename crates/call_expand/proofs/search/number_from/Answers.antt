@@ -3,8 +3,8 @@ use Rattle.std.proofs.lemmas.List.Sorted.{length_permutation}
 use Rattle.call_expand.proofs.Numbered.{length-places}
 use Rattle.call_expand.proofs.search.number_from.Goals as goal
 
-pub add_new-requires-clause-room : goal.add_new-requires-clause-room
-add_new-requires-clause-room c =
+pub add_new-requires : goal.add_new-requires
+add_new-requires c =
     omega (
       arith,
       c.requires.room,
