@@ -57,7 +57,7 @@ module _ (step : Step) (entry : ℕ) (configurations : List Configuration) (node
       let P : Successors → Type 0 = λ r. IsOkAnd r (λ s. Contains s (numbered configurations m)) in
       subst P (sym (node_at n from.0 from.1).goes) (has-map (numbered configurations) (links from.0.first from.0.second) m from.2)
 
-  -- and a move of the configurations is one of the graph
+  -- a move of the configurations is one of the graph
   follow_from : (n : ℕ) (d : Configuration) → n < length nodes → IsSuccessor step (numbered configurations n) d
       → (m : ℕ) × IsSuccessor (graph_step nodes) n m × (numbered configurations m ≡ d)
   follow_from n d below follows =
@@ -115,7 +115,7 @@ module _ (step : Step) (entry : ℕ) (configurations : List Configuration) (node
       (λ (t : (m ≡ b) × (letter ≡ codes "t")). inr (ap (numbered configurations) t.0, t.1))
       has
 
-  -- and back
+  -- a letter of the configurations of links is one of the links
   letter_from : (first second : Option ℕ) (m : ℕ) (letter : List ℕ) → m < length nodes
       → ((a : ℕ) → (first ≡ Some a) ⊎ (second ≡ Some a) → a < length nodes)
       → IsLetter {C = Configuration} {F = FlowFault} (Ok (map (numbered configurations) (links first second))) (numbered configurations m) letter
@@ -131,7 +131,7 @@ module _ (step : Step) (entry : ℕ) (configurations : List Configuration) (node
       inr (is.apart m b (omega (arith, as_many)) (omega (arith, as_many, fit b (inr refl))) t.0, t.1))
       has
 
-  -- the same, of a node
+  -- a letter of a node is one of its configuration
   move_to : (n m : ℕ) (letter : List ℕ) → n < length nodes → IsLetter (graph_step nodes n) m letter
       → IsLetter (step (numbered configurations n)) (numbered configurations m) letter
   move_to n m letter below has =
@@ -140,7 +140,7 @@ module _ (step : Step) (entry : ℕ) (configurations : List Configuration) (node
       let Q : Successors → Type 0 = λ r. IsLetter r (numbered configurations m) letter in
       subst Q (sym (node_at n node.0 node.1).goes) (letter_to node.0.first node.0.second m letter (subst P node.1 has))
 
-  -- and back
+  -- a letter of a configuration is one of its node
   move_from : (n m : ℕ) (letter : List ℕ) → n < length nodes → m < length nodes
       → IsLetter (step (numbered configurations n)) (numbered configurations m) letter → IsLetter (graph_step nodes n) m letter
   move_from n m letter below within has =
@@ -164,7 +164,7 @@ module _ (step : Step) (entry : ℕ) (configurations : List Configuration) (node
     has.4,
   )
 
-  -- and back
+  -- the choices of the configurations of a path are those of the path
   pub choices_from : (members choices : List ℕ) → IsPath (graph_step nodes) 0 members
       → HasChoices step (map (numbered configurations) members) choices → HasChoices (graph_step nodes) members choices
   choices_from [] choices path has = has

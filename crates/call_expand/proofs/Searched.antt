@@ -37,7 +37,7 @@ module _ {C F : Type 0} (step : C → Result (List C) F) (start : C) (order : C 
     closed = λ b c has follows. absurd (omega (arith, has.1));
   }
 
-  -- and is layer 0
+  -- the start alone is layer 0
   pub first_layer : IsLayer step start order 0 (start ∷ [])
   unfolding IsStrictlySortedBy
   first_layer = record {
@@ -55,7 +55,7 @@ module _ {C F : Type 0} (step : C → Result (List C) F) (start : C) (order : C 
         let from = is.follow c has in
         later from.0 c n (searched.last_reached from.0 from.1) from.2
 
-    -- a state that so many steps reach is among all of them
+    -- a state that at most n + 1 steps reach is among all of them
     covered_more : (m : ℕ) (c : C) → m ≤ n + 1 → IsReachedIn step start m c → Contains ((before ++ last) ++ next) c
     covered_more m c within reached =
         elim (eq-or-lt_of_le within) as (λ h. Contains ((before ++ last) ++ next) c) [
@@ -86,7 +86,7 @@ module _ {C F : Type 0} (step : C → Result (List C) F) (start : C) (order : C 
           (Contains-append_cases before last b has);
     }
 
-    -- and the next list is the next layer
+    -- the next list is the next layer
     pub next_layer : IsLayer step start order (n + 1) next
     next_layer = record {
       sorted = is.sorted;

@@ -16,7 +16,7 @@ use Rattle.flow_spec.specs.Acceptance.{Step, AreLayers, IsFaultless, IsAccepted,
 use Rattle.flow_spec.specs.declared.fault.FlowFault.{FlowFault}
 use Rattle.flow_spec.specs.declared.fault.FlowFault.TheVariants.{TooManyFetches}
 use Rattle.call_expand.specs.Expansion.{numbered}
-use Rattle.call_expand.specs.Place.{FailsAt}
+use Rattle.call_expand.specs.Point.{FailsAt}
 use Rattle.call_expand.specs.Search.{IsSearched, AreNext, FollowSmaller, IsWalked}
 use Rattle.call_expand.proofs.Zipped.{all-append}
 use Rattle.call_expand.proofs.Searched.{begun, first_layer, searched_more, next_layer, layers_more}

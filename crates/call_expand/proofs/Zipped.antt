@@ -9,7 +9,7 @@ zip-length R [] (y ∷ ys) all = absurd all
 zip-length R (x ∷ xs) [] all = absurd all
 zip-length R (x ∷ xs) (y ∷ ys) all = ap suc (zip-length R xs ys all.1)
 
--- elements at one place fit
+-- elements at one index fit
 pub zip-at : {A B : Type 0} (R : A → B → Type 0) (xs : List A) (ys : List B) (i : ℕ) (d : A) (e : B) → AllZip R xs ys → i < length xs
     → R (get_or xs i d) (get_or ys i e)
 zip-at R [] ys i d e all below = absurd (omega arith)
@@ -17,7 +17,7 @@ zip-at R (x ∷ xs) [] i d e all below = absurd all
 zip-at R (x ∷ xs) (y ∷ ys) zero d e all below = all.0
 zip-at R (x ∷ xs) (y ∷ ys) (suc i) d e all below = zip-at R xs ys i d e all.1 (omega arith)
 
--- pairs of lists, one behind the other
+-- pairs of lists, one after the other
 pub zip-append : {A B : Type 0} (R : A → B → Type 0) (xs us : List A) (ys vs : List B) → AllZip R xs ys → AllZip R us vs → AllZip R (xs ++ us) (ys ++ vs)
 zip-append R [] us [] vs first second = second
 zip-append R [] us (y ∷ ys) vs first second = absurd first
@@ -37,12 +37,12 @@ pub all-weaker : {A : Type 0} (P Q : A → Type 0) → ((x : A) → P x → Q x)
 all-weaker P Q to [] all = tt
 all-weaker P Q to (x ∷ xs) all = (to x all.0, all-weaker P Q to xs all.1)
 
--- a property of each element of two lists, one behind the other
+-- a property of each element of two lists, one after the other
 pub all-append : {X : Type 0} (P : X → Type 0) (xs ys : List X) → AllByRecursion P xs → AllByRecursion P ys → AllByRecursion P (xs ++ ys)
 all-append P [] ys first second = second
 all-append P (x ∷ xs) ys first second = (first.0, all-append P xs ys first.1 second)
 
--- and of each list alone
+-- a property of each element of two lists, of each list alone
 pub all-front : {X : Type 0} (P : X → Type 0) (xs ys : List X) → AllByRecursion P (xs ++ ys) → AllByRecursion P xs
 all-front P [] ys all = tt
 all-front P (x ∷ xs) ys all = (all.0, all-front P xs ys all.1)
@@ -51,7 +51,7 @@ pub all-back : {X : Type 0} (P : X → Type 0) (xs ys : List X) → AllByRecursi
 all-back P [] ys all = all
 all-back P (x ∷ xs) ys all = all-back P xs ys all.1
 
--- the element at a place has it
+-- the element at an index has it
 pub all-at : {X : Type 0} (P : X → Type 0) (xs : List X) (i : ℕ) (d : X) → AllByRecursion P xs → i < length xs → P (get_or xs i d)
 all-at P [] i d all below = absurd (omega arith)
 all-at P (x ∷ xs) zero d all below = all.0

@@ -13,9 +13,9 @@ use Rattle.flow_spec.specs.Configuration.{Configuration, start_of}
 use Rattle.frame_stacks.specs.declared.stacks.StackCell.{StackCell}
 use Rattle.frame_stacks.specs.Stacks.{AreCells}
 use Rattle.call_expand.specs.Expansion.{numbered}
-use Rattle.call_expand.specs.Place.{configurations_at, ArePlaces, IsEdge}
-use Rattle.call_expand.specs.declared.place.Place.{Place}
-use Rattle.call_expand.specs.declared.place.Edges.{Edges}
+use Rattle.call_expand.specs.Point.{configurations_at, ArePoints, IsEdge}
+use Rattle.call_expand.specs.declared.point.Point.{Point}
+use Rattle.call_expand.specs.declared.point.Edges.{Edges}
 use Rattle.call_expand.specs.declared.search.Search.{Search}
 
 -- the states of layers 0 to n, those of the last layer last; each successor of one before is among them
@@ -51,15 +51,15 @@ pub record IsWalked (step : Step) (image : Image) (entry : ℕ) (before last : L
   pub few : length (before ++ last) ≤ fetch_limit
 
 -- the search is at the layer that begins with this number
-pub record IsAt (image : Image) (entry : ℕ) (cells : List StackCell) (places : List Place) (edges : List Edges) (start : ℕ) : Type 0 where
+pub record IsAt (image : Image) (entry : ℕ) (cells : List StackCell) (points : List Point) (edges : List Edges) (start : ℕ) : Type 0 where
   pub are_cells : AreCells cells
-  pub are_places : ArePlaces image cells places
-  pub within : start ≤ length places
-  pub each : AllZip (IsEdge (successors image entry) image cells) (take start places) edges
+  pub are_points : ArePoints image cells points
+  pub within : start ≤ length points
+  pub each : AllZip (IsEdge (successors image entry) image cells) (take start points) edges
   pub room : length cells ≤ start
-  pub walked : IsWalked (successors image entry) image entry (configurations_at cells (take start places)) (configurations_at cells (drop start places))
+  pub walked : IsWalked (successors image entry) image entry (configurations_at cells (take start points)) (configurations_at cells (drop start points))
 
--- the same, of all that a search has
+-- the search has its cells, points and edges at the layer that begins with this number
 abbrev pub IsSearchAt : Image → ℕ → Search → ℕ → Type 0
 IsSearchAt image entry search start =
     IsAt image entry search.stacks search.known search.edges.items start

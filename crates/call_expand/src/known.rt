@@ -1,29 +1,29 @@
 ghost use Rattle.std.specs.Prelude.{◌≡◌, ◌+◌, ◌^◌, ◌<◌, List, [], ◌∷◌, ◌++◌, length, slice_get, Contains, MatchOption, OnOk};
-ghost use Rattle.call_expand.specs.declared.place.Place.{Place};
+ghost use Rattle.call_expand.specs.declared.point.Point.{Point};
 ghost use Rattle.call_expand.specs.Numbers.{AreApart, AreNew, IsAdded};
 
-use crate::place::Place;
+use crate::point::Point;
 use std::alloc::{AllocError, Global};
 use std::collections::BTreeMap;
 use std::marker::Model;
 
-// The places so far in the order of their numbers, and the number of each. Its value is the list of the places.
+// The points so far in the order of their numbers, and the number of each. Its value is the list of the points.
 #[derive(Drop)]
 pub(crate) struct Known {
-    places: Vec<Place>,
+    points: Vec<Point>,
     numbers: BTreeMap<(u32, u32), u32>,
 }
 
 impl Model for Known {
     ghost use Rattle.std.specs.Prelude.{List};
-    ghost use Rattle.call_expand.specs.declared.place.Place.{Place};
+    ghost use Rattle.call_expand.specs.declared.point.Point.{Point};
     ghost use Rattle.call_expand.specs.Numbers.{AreNumbers};
 
-    ghost Value = { List Place };
+    ghost Value = { List Point };
 
-    ghost view = { λ known. known.places.items };
+    ghost view = { λ known. known.points.items };
 
-    ghost invariant = { λ known. AreNumbers known.places.items known.numbers };
+    ghost invariant = { λ known. AreNumbers known.points.items known.numbers };
 }
 
 impl Known {
@@ -31,64 +31,64 @@ impl Known {
         ensures { result ≡ [] }
     {
         Known {
-            places: Vec::new(alloc),
+            points: Vec::new(alloc),
             numbers: BTreeMap::new(alloc),
         }
     }
 
-    pub(crate) fn places(&self) -> &[Place]
+    pub(crate) fn points(&self) -> &[Point]
         ensures { result.now ≡ self.now }
     {
-        &self.places
+        &self.points
     }
 
-    pub(crate) fn into_places(self) -> Vec<Place>
+    pub(crate) fn into_points(self) -> Vec<Point>
         ensures same { result.items ≡ self }
         ensures apart { AreApart self }
     {
-        self.places
+        self.points
     }
 
-    // The number of a place, where it has one.
-    pub(crate) fn number_of(&self, place: Place) -> Option<u32>
-        ensures { MatchOption result (Contains self.now place → ⊥)
-            (λ number. slice_get self.now number ≡ Some place) }
+    // The number of a point, where it has one.
+    pub(crate) fn number_of(&self, point: Point) -> Option<u32>
+        ensures { MatchOption result (Contains self.now point → ⊥)
+            (λ number. slice_get self.now number ≡ Some point) }
     {
-        self.numbers.get(&(place.at, place.stack)).copied()
+        self.numbers.get(&(point.at, point.stack)).copied()
     }
 
-    // Gives a place the next number.
-    pub(crate) fn add(&mut self, place: Place) -> Result<(), AllocError>
-        requires new { Contains self.old place → ⊥ }
+    // Gives a point the next number.
+    pub(crate) fn add(&mut self, point: Point) -> Result<(), AllocError>
+        requires new { Contains self.old point → ⊥ }
         requires room { length self.old < 2 ^ 32 }
-        ensures { OnOk result (self.new ≡ self.old ++ place ∷ []) }
+        ensures { OnOk result (self.new ≡ self.old ++ point ∷ []) }
     {
-        let number = self.places.len() as u32;
-        // Takes the room first, so that the map numbers listed places alone, even where memory runs out.
-        self.places.reserve(1)?;
-        self.numbers.insert((place.at, place.stack), number)?;
-        self.places.push_reserved(place);
+        let number = self.points.len() as u32;
+        // Takes the room first, so that the map numbers listed points alone, even where memory runs out.
+        self.points.reserve(1)?;
+        self.numbers.insert((point.at, point.stack), number)?;
+        self.points.push_reserved(point);
         Ok(())
     }
 
-    // Numbers a place that has no number yet.
-    fn add_if_new(&mut self, place: Place) -> Result<(), AllocError>
+    // Numbers a point that has no number yet.
+    fn add_if_new(&mut self, point: Point) -> Result<(), AllocError>
         requires { length self.old < 2 ^ 32 }
-        ensures { OnOk result (IsAdded self.old place self.new) }
+        ensures { OnOk result (IsAdded self.old point self.new) }
     {
-        match self.number_of(place) {
+        match self.number_of(point) {
             Some(_) => Ok(()),
-            None => self.add(place),
+            None => self.add(point),
         }
     }
 
-    // Numbers those places that have no number yet, in their order.
-    pub(crate) fn add_new(&mut self, places: &[Place]) -> Result<(), AllocError>
-        requires { length self.old + length places.now < 2 ^ 32 }
-        ensures { OnOk result ((more : List Place) × (self.new ≡ self.old ++ more) × AreNew self.old places.now more) }
+    // Numbers those points that have no number yet, in their order.
+    pub(crate) fn add_new(&mut self, points: &[Point]) -> Result<(), AllocError>
+        requires { length self.old + length points.now < 2 ^ 32 }
+        ensures { OnOk result ((more : List Point) × (self.new ≡ self.old ++ more) × AreNew self.old points.now more) }
     {
-        for place in places {
-            self.add_if_new(*place)?;
+        for point in points {
+            self.add_if_new(*point)?;
         }
         Ok(())
     }

@@ -1,30 +1,30 @@
 use Rattle.std.proofs.Common.{◌≡◌, ◌∙◌, ap, subst, sym, List, length}
-use Rattle.call_expand.specs.declared.place.Place.{Place}
-use Rattle.call_expand.specs.declared.place.Edges.{Edges}
+use Rattle.call_expand.specs.declared.point.Point.{Point}
+use Rattle.call_expand.specs.declared.point.Edges.{Edges}
 use Rattle.call_expand.specs.Numbers.{AreApart, AreNodesFor}
-use Rattle.call_expand.specs.Place.{AreExpanded, configurations_at}
+use Rattle.call_expand.specs.Point.{AreExpanded, configurations_at}
 use Rattle.call_expand.proofs.Finished.{some-from, same-at, edges_long, edges_among, is_accepted, is_graph, is_graph_of, are_expanded, are_texts}
 use Rattle.call_expand.proofs.search.finish.Goals as goal
 use Rattle.call_expand.proofs.search.finish.Goals.{After-new, After-unwrap-graph}
 
--- there is a node for each place, with the edges of that
+-- there is a node for each point, with the edges of that
 are_nodes : (c : After-new) → AreNodesFor c.args.search.known c.args.search.known c.args.search.edges.items c.in_ok-nodes.nodes.items
 are_nodes c =
     let P : List Edges → Type 0 = λ es. AreNodesFor c.args.search.known c.args.search.known es c.in_ok-nodes.nodes.items in
     subst P c.deref.ensures.value c.in_ok-nodes.ensures
 
--- no place has two numbers
+-- no point has two numbers
 are_apart : (c : After-new) → AreApart c.args.search.known
-are_apart c = c.into_places-places.ensures.apart
+are_apart c = c.into_points-points.ensures.apart
 
 -- the graph has these nodes
 same_nodes : (c : After-unwrap-graph) → c.unwrap-graph.result ≡ c.in_ok-nodes.nodes.items
 same_nodes c = same-at c.new.result c.unwrap-graph.result c.in_ok-nodes.nodes.items c.unwrap-graph.ensures c.new.ensures.same
 
--- the configurations are those of the places
+-- the configurations are those of the points
 same_configurations : (c : goal.After-drop-edges-2) → c.new-2.result.configurations ≡ configurations_at c.args.search.stacks c.args.search.known
 same_configurations c =
-    c.new-2.ensures.configurations ∙ ap (configurations_at c.args.search.stacks) c.into_places-places.ensures.same
+    c.new-2.ensures.configurations ∙ ap (configurations_at c.args.search.stacks) c.into_points-points.ensures.same
 
 pub nodes_of-requires-clause-each : goal.nodes_of-requires-clause-each
 nodes_of-requires-clause-each c = ap length c.deref.ensures.value ∙ edges_long c.requires
@@ -38,9 +38,9 @@ unwrap-graph-requires c =
 
 pub new-requires-2 : goal.new-requires-2
 new-requires-2 c =
-    let P : List Place → Type 0 = λ ps. AreExpanded c.args.search.stacks ps c.unwrap-graph.result in
+    let P : List Point → Type 0 = λ ps. AreExpanded c.args.search.stacks ps c.unwrap-graph.result in
     let known = (goal.at.new-requires-2 c).After-new in
-    subst P (sym c.into_places-places.ensures.same)
+    subst P (sym c.into_points-points.ensures.same)
     (are_expanded c.requires (are_apart known) c.in_ok-nodes.nodes.items (are_nodes known) c.unwrap-graph.result
     (same_nodes c))
 

@@ -1,7 +1,7 @@
 use Rattle.std.proofs.Common.{refl, ap, ◌∙◌, get_or}
 use Rattle.std.specs.Prelude.{flat_map}
 use Rattle.std.proofs.lemmas.List.{take_all}
-use Rattle.call_expand.specs.Place.{places_of}
+use Rattle.call_expand.specs.Point.{points_of}
 use Rattle.call_expand.proofs.Edges.{none}
 use Rattle.call_expand.proofs.Numbered.{found-more}
 use Rattle.call_expand.proofs.search.found_by.Goals as goal
@@ -13,4 +13,4 @@ loop-edge-preserved c =
     c.in_ok-push_some-2.ensures
 
 pub returns : goal.returns
-returns c = c.loop-edge.invariant ∙ ap (flat_map places_of) (take_all c.loop-edge.edge-index c.args.edges.now c.loop-edge-test.false)
+returns c = c.loop-edge.invariant ∙ ap (flat_map points_of) (take_all c.loop-edge.edge-index c.args.edges.now c.loop-edge-test.false)
