@@ -30,9 +30,13 @@ one at stack = record { first = Some (point at stack); second = None }
 abbrev pub two : ℕ → ℕ → ℕ → Edges
 two next target stack = record { first = Some (point next stack); second = Some (point target stack) }
 
+-- where control goes from a point, by its address and its newest call
+abbrev pub GoesTo : Image → List StackCell → Point → Going → Type 0
+GoesTo image cells p going = next_at image p.at (newest (frames_of cells p.stack)) ≡ going
+
 -- the successors of a point, by where control goes
 pub successors-by : (image : Image) (entry : ℕ) (cells : List StackCell) (p : Point) (going : Going)
-    → next_at image p.at (newest (frames_of cells p.stack)) ≡ going
+    → GoesTo image cells p going
     → successors image entry (configuration_at cells p) ≡ successors_by entry (configuration_at cells p) going
 unfolding successors
 successors-by image entry cells p going is = ap (successors_by entry (configuration_at cells p)) is
@@ -40,14 +44,17 @@ successors-by image entry cells p going is = ap (successors_by entry (configurat
 -- there may be more cells
 pub same-configuration : (before after : List StackCell) (p : Point) → GoesOn before after → p.stack ≤ length before
     → configuration_at after p ≡ configuration_at before p
-same-configuration before after p goes_on known = ap (λ (frames : List Frame). configuration frames p.at) (goes_on.kept p.stack known)
+same-configuration before after p goes_on known =
+    ap (λ (frames : List Frame). configuration frames p.at) (goes_on.kept p.stack known)
 
 -- with more cells a point is still one
-pub same-point : (image : Image) (before after : List StackCell) → GoesOn before after → (p : Point) → IsPoint image before p → IsPoint image after p
+pub same-point : (image : Image) (before after : List StackCell) → GoesOn before after → (p : Point)
+    → IsPoint image before p → IsPoint image after p
 same-point image before after goes_on p is = record { known = omega (arith, is.known, goes_on.longer); text = is.text }
 
 -- with more cells some points have the same configurations
-pub same-configurations : (image : Image) (before after : List StackCell) (points : List Point) → GoesOn before after → ArePoints image before points
+pub same-configurations : (image : Image) (before after : List StackCell) (points : List Point) → GoesOn before after
+    → ArePoints image before points
     → configurations_at after points ≡ configurations_at before points
 same-configurations image before after points goes_on are =
     map-same (configuration_at after) (configuration_at before) points
@@ -55,13 +62,17 @@ same-configurations image before after points goes_on are =
     (λ p is. same-configuration before after p goes_on is.known) points are)
 
 -- with more cells edges are still those of their point
-pub same-edge : (step : Step) (image : Image) (before after : List StackCell) → GoesOn before after → (p : Point) (edges : Edges)
+pub same-edge : (step : Step) (image : Image) (before after : List StackCell) → GoesOn before after
+    → (p : Point) (edges : Edges)
     → IsPoint image before p → IsEdge step image before p edges → IsEdge step image after p edges
 same-edge step image before after goes_on p edges is edge = record {
   goes =
       ap step (same-configuration before after p goes_on is.known)
-      ∙ (edge.goes ∙ ap (λ cs. Ok cs) (sym (same-configurations image before after (points_of edges) goes_on edge.points)));
-  points = all-weaker (IsPoint image before) (IsPoint image after) (same-point image before after goes_on) (points_of edges) edge.points;
+      ∙ (edge.goes ∙ ap (λ cs. Ok cs)
+      (sym (same-configurations image before after (points_of edges) goes_on edge.points)));
+  points =
+      all-weaker (IsPoint image before) (IsPoint image after) (same-point image before after goes_on) (points_of edges)
+      edge.points;
   first = edge.first;
   apart = edge.apart;
 }
@@ -76,9 +87,9 @@ goes_on-trans a b c first second = record {
   kept = λ s known. second.kept s (omega (arith, first.longer)) ∙ first.kept s known;
 }
 
-module _ (image : Image) (entry : ℕ) (cells : List StackCell) (p : Point) (is : IsPoint image cells p) where
+module _ {image : Image} (entry : ℕ) {cells : List StackCell} {p : Point} (is : IsPoint image cells p) where
   -- a path ends at a point: it has no edges
-  pub edge-ends : next_at image p.at (newest (frames_of cells p.stack)) ≡ Ok Ends → IsEdge (successors image entry) image cells p none
+  pub edge-ends : GoesTo image cells p (Ok Ends) → IsEdge (successors image entry) image cells p none
   edge-ends next = record {
     goes = successors-by image entry cells p (Ok Ends) next;
     points = tt;
@@ -87,20 +98,20 @@ module _ (image : Image) (entry : ℕ) (cells : List StackCell) (p : Point) (is 
   }
 
   -- control goes to one point, with the same calls open
-  pub edge-go : (target : ℕ) → next_at image p.at (newest (frames_of cells p.stack)) ≡ Ok (Go target)
+  pub edge-go : (target : ℕ) → GoesTo image cells p (Ok (Go target))
       → IsEdge (successors image entry) image cells p (one target p.stack)
   edge-go target next = record {
     goes = successors-by image entry cells p (Ok (Go target)) next;
-    points = (record { known = is.known; text = next-texts image p.at (newest (frames_of cells p.stack)) (Go target) next }, tt);
+    points = (record { known = is.known; text = next-texts image p.at _ (Go target) next }, tt);
     first = λ _. refl;
     apart = λ a b first second. absurd (cc);
   }
 
   -- control goes to the next word or the target of a branch
-  pub edge-fork : (next target : ℕ) → next_at image p.at (newest (frames_of cells p.stack)) ≡ Ok (Fork next target)
+  pub edge-fork : (next target : ℕ) → GoesTo image cells p (Ok (Fork next target))
       → IsEdge (successors image entry) image cells p (two next target p.stack)
   edge-fork next target fork =
-      let texts = next-texts image p.at (newest (frames_of cells p.stack)) (Fork next target) fork in
+      let texts = next-texts image p.at _ (Fork next target) fork in
       record {
         goes = successors-by image entry cells p (Ok (Fork next target)) fork;
         points = (record { known = is.known; text = texts.0 }, (record { known = is.known; text = texts.1 }, tt));
@@ -113,20 +124,20 @@ module _ (image : Image) (entry : ℕ) (cells : List StackCell) (p : Point) (is 
 
   -- control goes back to the caller, and the newest call is closed
   pub edge-back : (target below : ℕ) → below ≤ length cells → frames_of cells below ≡ older (frames_of cells p.stack)
-      → next_at image p.at (newest (frames_of cells p.stack)) ≡ Ok (Back target)
+      → GoesTo image cells p (Ok (Back target))
       → IsEdge (successors image entry) image cells p (one target below)
   edge-back target below known frames next = record {
     goes =
         successors-by image entry cells p (Ok (Back target)) next
         ∙ ap (λ (frames : List Frame). Ok (configuration frames target ∷ [])) (sym frames);
-    points = (record { known = known; text = next-texts image p.at (newest (frames_of cells p.stack)) (Back target) next }, tt);
+    points = (record { known = known; text = next-texts image p.at _ (Back target) next }, tt);
     first = λ _. refl;
     apart = λ a b first second. absurd (cc);
   }
 
   -- control goes to the function that a call opens
   pub edge-enter : (after : List StackCell) (target : ℕ) (frame : Frame) (edges : Edges) → GoesOn cells after
-      → next_at image p.at (newest (frames_of cells p.stack)) ≡ Ok (Enter target frame) → Opens entry cells after p target frame edges
+      → GoesTo image cells p (Ok (Enter target frame)) → Opens entry cells after p target frame edges
       → IsEdge (successors image entry) image after p edges
   edge-enter after target frame edges goes_on next opens =
       let P : Edges → Type 0 = λ edges. IsEdge (successors image entry) image after p edges in
@@ -135,13 +146,14 @@ module _ (image : Image) (entry : ℕ) (cells : List StackCell) (p : Point) (is 
             ap (successors image entry) (same-configuration cells after p goes_on is.known)
             ∙ (successors-by image entry cells p (Ok (Enter target frame)) next ∙ opens.goes);
         points =
-            (record { known = opens.known; text = next-texts image p.at (newest (frames_of cells p.stack)) (Enter target frame) next }, tt);
+            (record { known = opens.known; text = next-texts image p.at _ (Enter target frame) next }, tt);
         first = λ _. refl;
         apart = λ a b first second. absurd (cc);
       })
 
 -- the first i points are followed
-pub record AreFollowed (step : Step) (image : Image) (before : List StackCell) (points : List Point) (i : ℕ) (now : List StackCell) (old new : List Edges) : Type 0 where
+pub record AreFollowed (step : Step) (image : Image) (before : List StackCell) (points : List Point) (i : ℕ)
+    (now : List StackCell) (old new : List Edges) : Type 0 where
   pub goes_on : GoesOn before now
   pub few : length now ≤ length before + i
   pub more : List Edges
@@ -149,8 +161,10 @@ pub record AreFollowed (step : Step) (image : Image) (before : List StackCell) (
   pub each : AllZip (IsEdge step image now) (take i points) more
 
 -- points that have edges have no fault
-pub edges-faultless : (step : Step) (image : Image) (before now : List StackCell) → GoesOn before now → (points : List Point) (edges : List Edges)
-    → ArePoints image before points → AllZip (IsEdge step image now) points edges → AllByRecursion (IsFaultless step) (configurations_at before points)
+pub edges-faultless : (step : Step) (image : Image) (before now : List StackCell) → GoesOn before now
+    → (points : List Point) (edges : List Edges)
+    → ArePoints image before points → AllZip (IsEdge step image now) points edges
+    → AllByRecursion (IsFaultless step) (configurations_at before points)
 edges-faultless step image before now goes_on [] edges are each = tt
 edges-faultless step image before now goes_on (p ∷ points) [] are each = absurd each
 edges-faultless step image before now goes_on (p ∷ points) (edge ∷ edges) are each =
@@ -159,22 +173,27 @@ edges-faultless step image before now goes_on (p ∷ points) (edge ∷ edges) ar
     let P : Successors → Type 0 = λ r. IsOk r in
     (subst P (sym goes) refl, edges-faultless step image before now goes_on points edges are.1 each.1)
 
-module _ (step : Step) (image : Image) (before : List StackCell) (points : List Point) (i : ℕ) (now : List StackCell) (old new : List Edges)
-    (are : ArePoints image before points) (within : i < length points) (followed : AreFollowed step image before points i now old new) where
+module _ {step : Step} {image : Image} {before : List StackCell} {points : List Point} {i : ℕ} {now : List StackCell}
+    {old new : List Edges} (are : ArePoints image before points) (within : i < length points)
+    (followed : AreFollowed step image before points i now old new) where
   -- the first of some points are such points
   are-front : ArePoints image before (take i points)
   are-front = let P : List Point → Type 0 = ArePoints image before in
       all-front (IsPoint image before) (take i points) (drop i points) (subst P (sym (take-append-drop i points)) are)
 
   -- one point more is followed
-  pub followed-more : (after : List StackCell) (p d : Point) (edge : Edges) (edges : List Edges) → p ≡ get_or points i d → GoesOn now after
+  pub followed-more : (after : List StackCell) (p d : Point) (edge : Edges) (edges : List Edges) → p ≡ get_or points i d
+      → GoesOn now after
       → length after ≤ length now + 1 → IsEdge step image after p edge → edges ≡ new ++ edge ∷ []
       → AreFollowed step image before points (i + 1) after old edges
   followed-more after p d edge edges here goes_on one is pushed =
       let Q : Point → Type 0 = λ p. IsEdge step image after p edge in
-      let still = zip-weaker (IsPoint image now) (IsEdge step image now) (IsEdge step image after) (same-edge step image now after goes_on) (take i points)
+      let still =
+      zip-weaker (IsPoint image now) (IsEdge step image now) (IsEdge step image after)
+      (same-edge step image now after goes_on) (take i points)
       followed.more
-      (all-weaker (IsPoint image before) (IsPoint image now) (same-point image before now followed.goes_on) (take i points) are-front)
+      (all-weaker (IsPoint image before) (IsPoint image now) (same-point image before now followed.goes_on)
+      (take i points) are-front)
       followed.each in
       let R : ℕ → Type 0 = λ j. AllZip (IsEdge step image after) (take j points) (followed.more ++ edge ∷ []) in
       record {
@@ -182,11 +201,14 @@ module _ (step : Step) (image : Image) (before : List StackCell) (points : List 
         few = omega (arith, followed.few, one);
         more = followed.more ++ edge ∷ [];
         is = pushed ∙ ap (λ es. es ++ edge ∷ []) followed.is ∙ append_assoc old followed.more (edge ∷ []);
-        each = subst R (sym (add-one i)) (zip-more (IsEdge step image after) points followed.more i d edge within still (subst Q here is));
+        each =
+            subst R (sym (add-one i))
+            (zip-more (IsEdge step image after) points followed.more i d edge within still (subst Q here is));
       }
 
   -- the next point has a fault, and is the first faulty one
-  pub followed-fault : (p d : Point) (fault : FlowFault) → p ≡ get_or points i d → step (configuration_at now p) ≡ Err fault
+  pub followed-fault : (p d : Point) (fault : FlowFault) → p ≡ get_or points i d
+      → step (configuration_at now p) ≡ Err fault
       → FailsAt step (configurations_at before points) fault
   followed-fault p d fault here faulty =
       let Q : Point → Type 0 = λ p. IsPoint image before p in
@@ -198,20 +220,26 @@ module _ (step : Step) (image : Image) (before : List StackCell) (points : List 
         before = configurations_at before (take i points);
         c = configuration_at before p;
         after = configurations_at before (drop (i + 1) points);
-        split = ap (configurations_at before) cut ∙ map-append (configuration_at before) (take i points) (p ∷ drop (i + 1) points);
-        faultless = edges-faultless step image before now followed.goes_on (take i points) followed.more are-front followed.each;
+        split =
+            ap (configurations_at before) cut
+            ∙ map-append (configuration_at before) (take i points) (p ∷ drop (i + 1) points);
+        faultless =
+            edges-faultless step image before now followed.goes_on (take i points) followed.more are-front
+            followed.each;
         faulty = ap step (sym (same-configuration before now p followed.goes_on is.known)) ∙ faulty;
       }
 
 -- what holds of a value, with what holds where there is one
-pub ok-with : {T E : Type 0} (r : Result T E) (P Q : T → Type 0) (G : Type 0) → ((x : T) → P x → G → Q x) → IfOk r P → OnOk r G → IfOk r Q
+pub ok-with : {T E : Type 0} (r : Result T E) (P Q : T → Type 0) (G : Type 0) → ((x : T) → P x → G → Q x) → IfOk r P
+    → OnOk r G → IfOk r Q
 ok-with (Ok x) P Q G to first second = to x first second
 ok-with (Err e) P Q G to first second = tt
 
 -- all points are followed
-pub followed-all : (step : Step) (image : Image) (before now : List StackCell) (points : List Point) (i : ℕ) (old new : List Edges) → i ≤ length points
-    → length points ≤ i → AreFollowed step image before points i now old new → AreAllFollowed step image before now points old new
-followed-all step image before now points i old new within past followed =
+pub followed-all : {step : Step} {image : Image} {before now : List StackCell} {points : List Point} {i : ℕ}
+    {old new : List Edges} → i ≤ length points → length points ≤ i → AreFollowed step image before points i now old new
+    → AreAllFollowed step image before now points old new
+followed-all {step} {image} {before} {now} {points} {i} within past followed =
     let P : List Point → Type 0 = λ ps. AllZip (IsEdge step image now) ps followed.more in
     record {
       goes_on = followed.goes_on;

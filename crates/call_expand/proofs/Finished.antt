@@ -44,7 +44,8 @@ cells-none : AreCells []
 cells-none = record { below = λ k cell found. absurd (cc); alone = λ s t first second same. omega arith }
 
 -- the entry alone
-begin_at : (image : Image) (entry : ℕ) → IsTrue (is_good_target image entry) → IsAt image entry [] (point entry 0 ∷ []) [] 0
+begin_at : (image : Image) (entry : ℕ) → IsTrue (is_good_target image entry)
+    → IsAt image entry [] (point entry 0 ∷ []) [] 0
 begin_at image entry good = record {
   are_cells = cells-none;
   are_points = (record { known = omega arith; text = good-text image entry good }, tt);
@@ -55,8 +56,10 @@ begin_at image entry good = record {
 }
 
 -- the entry alone, as the calls have made it
-pub at_begin : (image : Image) (entry : ℕ) (cells : List StackCell) (points : List Point) (edges : List Edges) → cells ≡ []
-    → points ≡ point entry 0 ∷ [] → edges ≡ [] → IsTrue (is_good_target image entry) → IsAt image entry cells points edges 0
+pub at_begin : (image : Image) (entry : ℕ) (cells : List StackCell) (points : List Point) (edges : List Edges)
+    → cells ≡ []
+    → points ≡ point entry 0 ∷ [] → edges ≡ [] → IsTrue (is_good_target image entry)
+    → IsAt image entry cells points edges 0
 at_begin image entry cells points edges no_cells one no_edges good =
     let Q : List StackCell → Type 0 = λ cells. IsAt image entry cells points edges 0 in
     let R : List Point → Type 0 = λ points. IsAt image entry [] points edges 0 in
@@ -77,11 +80,13 @@ numbered-point cells points n p at =
 
 -- the numbers of points are those of their configurations
 number-list : (cells : List StackCell) (points : List Point) (o : Option Point) (n : Option ℕ) → HasNumber points o n
-    → map (configuration_at cells) (option_to_list o) ≡ map (numbered (configurations_at cells points)) (option_to_list n)
+    → map (configuration_at cells) (option_to_list o)
+    ≡ map (numbered (configurations_at cells points)) (option_to_list n)
 number-list cells points None None has = refl
 number-list cells points None (Some n) has = absurd has
 number-list cells points (Some p) None has = absurd has
-number-list cells points (Some p) (Some n) has = ap (λ (c : Configuration). c ∷ []) (sym (numbered-point cells points n p has))
+number-list cells points (Some p) (Some n) has =
+    ap (λ (c : Configuration). c ∷ []) (sym (numbered-point cells points n p has))
 
 module _ (step : Step) (image : Image) (cells : List StackCell) (all : List Point) where
   -- the node of a point is that of its configuration
@@ -92,14 +97,19 @@ module _ (step : Step) (image : Image) (cells : List StackCell) (all : List Poin
     goes =
         is.goes
         ∙ ap (λ cs. Ok cs) (map-append (configuration_at cells) (option_to_list edge.first) (option_to_list edge.second)
-        ∙ ap (λ cs. cs ++ map (configuration_at cells) (option_to_list edge.second)) (number-list cells all edge.first node.first for.first)
-        ∙ ap (λ cs. map (numbered (configurations_at cells all)) (option_to_list node.first) ++ cs) (number-list cells all edge.second node.second for.second)
-        ∙ sym (map-append (numbered (configurations_at cells all)) (option_to_list node.first) (option_to_list node.second)));
+        ∙ ap (λ cs. cs ++ map (configuration_at cells) (option_to_list edge.second))
+        (number-list cells all edge.first node.first for.first)
+        ∙ ap (λ cs. map (numbered (configurations_at cells all)) (option_to_list node.first) ++ cs)
+        (number-list cells all edge.second node.second for.second)
+        ∙ sym (map-append (numbered (configurations_at cells all)) (option_to_list node.first)
+        (option_to_list node.second)));
   }
 
   -- the nodes of some points are those of their configurations
-  nodes-are : (points : List Point) (edges : List Edges) (nodes : List Node) → AllZip (IsEdge step image cells) points edges
-      → AreNodesFor all points edges nodes → AllZip (IsNodeOf step (configurations_at cells all)) (configurations_at cells points) nodes
+  nodes-are : (points : List Point) (edges : List Edges) (nodes : List Node)
+      → AllZip (IsEdge step image cells) points edges
+      → AreNodesFor all points edges nodes
+      → AllZip (IsNodeOf step (configurations_at cells all)) (configurations_at cells points) nodes
   nodes-are [] [] [] each are = tt
   nodes-are [] [] (node ∷ nodes) each are = absurd are
   nodes-are [] (edge ∷ edges) nodes each are = absurd each
@@ -109,7 +119,8 @@ module _ (step : Step) (image : Image) (cells : List StackCell) (all : List Poin
       (node-is p edge node each.0 are.0, nodes-are points edges nodes each.1 are.1)
 
   -- the numbers of edges are fit
-  fit-by : (first second : Option Point) (one other : Option ℕ) → HasNumber all first one → HasNumber all second other → (first ≡ None → second ≡ None)
+  fit-by : (first second : Option Point) (one other : Option ℕ) → HasNumber all first one → HasNumber all second other
+      → (first ≡ None → second ≡ None)
       → ((a b : Point) → first ≡ Some a → second ≡ Some b → a.at ≡ b.at → ⊥) → IsTrue (are_fit (length all) one other)
   fit-by None None None None has also order apart = refl
   fit-by None None None (Some n) has also order apart = absurd also
@@ -131,7 +142,8 @@ module _ (step : Step) (image : Image) (cells : List StackCell) (all : List Poin
       grind (arith, nat_tests)
 
   -- the numbers of some nodes are fit
-  nodes-fit : (points : List Point) (edges : List Edges) (nodes : List Node) → AllZip (IsEdge step image cells) points edges
+  nodes-fit : (points : List Point) (edges : List Edges) (nodes : List Node)
+      → AllZip (IsEdge step image cells) points edges
       → AreNodesFor all points edges nodes → IsTrue (list_all (is_fit (length all)) nodes)
   nodes-fit [] [] [] each are = refl
   nodes-fit [] [] (node ∷ nodes) each are = absurd are
@@ -161,21 +173,30 @@ module _ {image : Image} {entry : ℕ} {cells : List StackCell} {points : List P
 
   -- each point has its edges
   each : AllZip (IsEdge (successors image entry) image cells) points edges
-  each = let P : List Point → Type 0 = λ ps. AllZip (IsEdge (successors image entry) image cells) ps edges in subst P front at.each
+  each =
+      let P : List Point → Type 0 =
+      λ ps. AllZip (IsEdge (successors image entry) image cells) ps edges in subst P front at.each
 
   -- the last layer is empty
   walked : IsWalked (successors image entry) image entry all_configurations []
   walked =
       let P : List Point → Type 0 =
-      λ ps. IsWalked (successors image entry) image entry (configurations_at cells ps) (configurations_at cells (drop (length points) points)) in
-      let Q : List Point → Type 0 = λ ps. IsWalked (successors image entry) image entry all_configurations (configurations_at cells ps) in
+      λ ps. IsWalked (successors image entry) image entry (configurations_at cells ps)
+      (configurations_at cells (drop (length points) points)) in
+      let Q : List Point → Type 0 =
+      λ ps. IsWalked (successors image entry) image entry all_configurations (configurations_at cells ps) in
       subst Q back (subst P front at.walked)
 
   -- the program is accepted
   pub is_accepted : (configurations : List Configuration) → configurations ≡ configurations_at cells points
-      → (layers : List (List Configuration)) × IsAccepted (successors image entry) image entry layers × (configurations ≡ all_of layers)
-  is_accepted configurations same =
-      (walked.earlier, accepted (successors image entry) image entry all_configurations [] walked refl, same ∙ sym walked.all)
+      → (layers : List (List Configuration)) × IsAccepted (successors image entry) image entry layers
+      × (configurations ≡ all_of layers)
+  is_accepted configurations same = (
+    walked.earlier,
+    accepted (successors image entry) image entry all_configurations [] walked refl,
+    same
+        ∙ sym walked.all,
+  )
 
   -- its configurations are in the text
   pub are_texts : (configurations : List Configuration) → configurations ≡ configurations_at cells points
@@ -197,8 +218,12 @@ module _ {image : Image} {entry : ℕ} {cells : List StackCell} {points : List P
       let P : List Configuration → Type 0 = λ cs. Contains cs (configuration_at cells p) in
       let closed = walked.searched.closed (configuration_at cells q.0) (configuration_at cells p)
       (has-map (configuration_at cells) points q.0 q.1) q.2 in
-      let r = from-map (configuration_at cells) points (configuration_at cells p) (subst P (append-nil all_configurations) closed) in
-      let is = each-has (IsPoint image cells) (flat_map points_of edges) (edges-points (successors image entry) image cells points edges each) p has in
+      let r =
+      from-map (configuration_at cells) points (configuration_at cells p)
+      (subst P (append-nil all_configurations) closed) in
+      let is =
+      each-has (IsPoint image cells) (flat_map points_of edges)
+      (edges-points (successors image entry) image cells points edges each) p has in
       let known = each-has (IsPoint image cells) points at.are_points r.0 r.1 in
       let one : r.0 ≡ p = same_point cells r.0 p at.are_cells known.known is.known r.2 in
       let Q : Point → Type 0 = λ p. Contains points p in
@@ -238,22 +263,29 @@ module _ {image : Image} {entry : ℕ} {cells : List StackCell} {points : List P
 
       -- a successor of a configuration is the number of a successor of its node
       back_to : (n m : ℕ) → n < length nodes → m < length nodes
-          → IsSuccessor (successors image entry) (numbered all_configurations n) (numbered all_configurations m) → IsSuccessor (graph_step nodes) n m
+          → IsSuccessor (successors image entry) (numbered all_configurations n) (numbered all_configurations m)
+          → IsSuccessor (graph_step nodes) n m
       back_to n m first second follows =
           let node = found-inside nodes n first in
           let long : length all_configurations ≡ length points = length-map points (configuration_at cells) in
-          let P : Node → Type 0 = λ node. IsNodeOf (successors image entry) all_configurations (numbered all_configurations n) node in
+          let P : Node → Type 0 =
+          λ node. IsNodeOf (successors image entry) all_configurations (numbered all_configurations n) node in
           let is = subst P (get_or_from_slice_get nodes n node.0 node.0 node.1)
-          (zip-at (IsNodeOf (successors image entry) all_configurations) all_configurations nodes n (start_of 0) node.0 nodes_of_all
+          (zip-at (IsNodeOf (successors image entry) all_configurations) all_configurations nodes n (start_of 0) node.0
+          nodes_of_all
           (omega (arith, long, nodes_long, first))) in
           let Q : Successors → Type 0 = λ r. IsOkAnd r (λ s. Contains s (numbered all_configurations m)) in
-          let k = from-map (numbered all_configurations) (links node.0.first node.0.second) (numbered all_configurations m) (subst Q is.goes follows) in
+          let k =
+          from-map (numbered all_configurations) (links node.0.first node.0.second) (numbered all_configurations m)
+          (subst Q is.goes follows) in
           let R : Option Node → Type 0 = λ o. IsSuccessorBy o k.0 in
           let to : IsSuccessor (graph_step nodes) n k.0 = subst R (sym node.1) k.1 in
           let leads = node-from_successor nodes n k.0 to in
-          let below = below-from_fit (length nodes) k.0 leads.0 (fit_at nodes (length nodes) n leads.0 all_fit leads.1) leads.2 in
+          let below =
+          below-from_fit (length nodes) k.0 leads.0 (fit_at nodes (length nodes) n leads.0 all_fit leads.1) leads.2 in
           let one : k.0 ≡ m =
-          configurations_apart k.0 m (omega (arith, long, nodes_long, below)) (omega (arith, long, nodes_long, second)) k.2 in
+          configurations_apart k.0 m (omega (arith, long, nodes_long, below)) (omega (arith, long, nodes_long, second))
+          k.2 in
           let S : ℕ → Type 0 = λ m. IsSuccessor (graph_step nodes) n m in
           subst S one to
 
@@ -261,7 +293,8 @@ module _ {image : Image} {entry : ℕ} {cells : List StackCell} {points : List P
       pub is_graph : IsGraph nodes
       is_graph =
           let long : length all_configurations ≡ length points = length-map points (configuration_at cells) in
-          let joined : length (all_configurations ++ []) ≡ length nodes = ap length (append-nil all_configurations) ∙ long ∙ sym nodes_long in
+          let joined : length (all_configurations ++ []) ≡ length nodes =
+          ap length (append-nil all_configurations) ∙ long ∙ sym nodes_long in
           record {
             some = omega (arith, walked.some, joined);
             few = omega (arith, walked.few, joined);
@@ -269,8 +302,12 @@ module _ {image : Image} {entry : ℕ} {cells : List StackCell} {points : List P
             reached = λ m one below.
                 let from = walked.follow_smaller m one (omega (arith, below, joined)) in
                 let P : List Configuration → Type 0 =
-                λ cs. IsSuccessor (successors image entry) (numbered cs from.0) (numbered cs m) in
-                (from.0, from.1, back_to from.0 m (omega (arith, from.1, below)) below (subst P (append-nil all_configurations) from.2));
+                λ cs. IsSuccessor (successors image entry) (numbered cs from.0) (numbered cs m) in (
+                  from.0,
+                  from.1,
+                  back_to from.0 m (omega (arith, from.1, below)) below
+                      (subst P (append-nil all_configurations) from.2),
+                );
           }
 
       -- the nodes are the graph of all configurations
@@ -284,7 +321,8 @@ module _ {image : Image} {entry : ℕ} {cells : List StackCell} {points : List P
       }
 
       -- the graph that the calls have made is that of the configurations
-      pub is_graph_of : (configurations : List Configuration) (graph : List Node) → configurations ≡ configurations_at cells points → graph ≡ nodes
+      pub is_graph_of : (configurations : List Configuration) (graph : List Node)
+          → configurations ≡ configurations_at cells points → graph ≡ nodes
           → IsGraphOf (successors image entry) entry configurations graph
       is_graph_of configurations graph same same_nodes =
           let P : List Configuration → Type 0 = λ cs. IsGraphOf (successors image entry) entry cs graph in
@@ -296,7 +334,8 @@ module _ {image : Image} {entry : ℕ} {cells : List StackCell} {points : List P
       are_expanded graph same =
           let P : List Node → Type 0 = IsGraph in
           record {
-            known = all-weaker (IsPoint image cells) (λ p. p.stack ≤ length cells) (λ p is. is.known) points at.are_points;
+            known =
+                all-weaker (IsPoint image cells) (λ p. p.stack ≤ length cells) (λ p is. is.known) points at.are_points;
             are_cells = at.are_cells;
             graph = subst P (sym same) is_graph;
             as_many = ap length same ∙ nodes_long;

@@ -24,7 +24,8 @@ use Rattle.call_expand.proofs.Edges.{same-point, same-configurations, same-edge,
 use Rattle.call_expand.proofs.Layer.{are_next, are_new}
 
 -- what holds of the layers stays, where there are more cells
-walked-same : (step : Step) (image : Image) (entry : ℕ) (before after : List StackCell) (first last : List Point) → GoesOn before after
+walked-same : (step : Step) (image : Image) (entry : ℕ) (before after : List StackCell) (first last : List Point)
+    → GoesOn before after
     → ArePoints image before first → ArePoints image before last
     → IsWalked step image entry (configurations_at before first) (configurations_at before last)
     → IsWalked step image entry (configurations_at after first) (configurations_at after last)
@@ -74,138 +75,172 @@ module _ {image : Image} {entry : ℕ} {cells : List StackCell} {points : List P
       inr (inl (faulty (successors image entry) image entry (configurations_at cells (take start points))
       (configurations_at cells (drop start points)) at.walked fault (subst P same fails)))
 
-  module _ (after : List StackCell) (more : List Edges) (found new : List Point) (goes_on : GoesOn cells after) (are_cells : AreCells after)
+  module _ (after : List StackCell) (more : List Edges) (found new : List Point) (goes_on : GoesOn cells after)
+      (are_cells : AreCells after)
       (each : AllZip (IsEdge (successors image entry) image after) (drop start points) more)
-      (same : IsPermutation (flat_map points_of more) found) (sorted : IsSorted (point_cmp after) found) (are : AreNew points found new) where
+      (same : IsPermutation (flat_map points_of more) found) (sorted : IsSorted (point_cmp after) found)
+      (are : AreNew points found new) where
     -- with more cells they are so still
     still_first : ArePoints image after (take start points)
-    still_first = all-weaker (IsPoint image cells) (IsPoint image after) (same-point image cells after goes_on) (take start points) are_first
+    still_first =
+        all-weaker (IsPoint image cells) (IsPoint image after) (same-point image cells after goes_on)
+        (take start points) are_first
 
     still_last : ArePoints image after (drop start points)
-    still_last = all-weaker (IsPoint image cells) (IsPoint image after) (same-point image cells after goes_on) (drop start points) are_last
+    still_last =
+        all-weaker (IsPoint image cells) (IsPoint image after) (same-point image cells after goes_on)
+        (drop start points) are_last
 
     -- the new ones are new beside both
     are_cut : AreNew (take start points ++ drop start points) found new
     are_cut = let P : List Point → Type 0 = λ seen. AreNew seen found new in subst P (sym cut) are
 
     -- the layers are those of the points with more cells
-    walked : IsWalked (successors image entry) image entry (configurations_at after (take start points)) (configurations_at after (drop start points))
-    walked = walked-same (successors image entry) image entry cells after (take start points) (drop start points) goes_on are_first are_last at.walked
+    walked : IsWalked (successors image entry) image entry (configurations_at after (take start points))
+        (configurations_at after (drop start points))
+    walked =
+        walked-same (successors image entry) image entry cells after (take start points) (drop start points) goes_on
+        are_first are_last at.walked
 
     -- no point of the layer has a fault
     faultless : AllByRecursion (IsFaultless (successors image entry)) (configurations_at after (drop start points))
-    faultless = edges-faultless (successors image entry) image after after (goes_on-refl after) (drop start points) more still_last each
+    faultless =
+        edges-faultless (successors image entry) image after after (goes_on-refl after) (drop start points) more
+        still_last each
 
     -- the new ones are the next layer
     next : AreNext (successors image entry) configuration_cmp (configurations_at after (take start points))
         (configurations_at after (drop start points)) (configurations_at after new)
     next =
-        are_next (successors image entry) image after (take start points) (drop start points) more found new are_cells still_first still_last each same
+        are_next (successors image entry) image after (take start points) (drop start points) more found new are_cells
+        still_first still_last each same
         sorted are_cut
 
     -- the configurations of all points so far
-    whole : configurations_at after (take start points) ++ configurations_at after (drop start points) ≡ configurations_at after points
+    whole : configurations_at after (take start points) ++ configurations_at after (drop start points)
+        ≡ configurations_at after points
     whole =
-        sym (map-append (configuration_at after) (take start points) (drop start points)) ∙ ap (configurations_at after) cut
+        sym (map-append (configuration_at after) (take start points) (drop start points))
+        ∙ ap (configurations_at after) cut
 
     -- there is a configuration for each point
-    as_many : length ((configurations_at after (take start points) ++ configurations_at after (drop start points)) ++ configurations_at after new)
-        ≡ length (points ++ new)
+    as_many : length ((configurations_at after (take start points) ++ configurations_at after (drop start points))
+        ++ configurations_at after new) ≡ length (points ++ new)
     as_many =
         ap (λ cs. length (cs ++ configurations_at after new)) whole
         ∙ ap length (sym (map-append (configuration_at after) points new))
         ∙ length-map (points ++ new) (configuration_at after)
 
     -- the next layer passes the limit
-    pub passes_limit : fetch_limit < length (points ++ new) → IsRefused (successors image entry) image entry (TooManyFetches fetch_limit)
+    pub passes_limit : fetch_limit < length (points ++ new)
+        → IsRefused (successors image entry) image entry (TooManyFetches fetch_limit)
     passes_limit many =
         inr (inr (too_many (successors image entry) image entry (configurations_at after (take start points))
-        (configurations_at after (drop start points)) walked (configurations_at after new) faultless next (omega (arith, many, as_many))))
+        (configurations_at after (drop start points)) walked (configurations_at after new) faultless next
+        (omega (arith, many, as_many))))
 
     -- else the search is at it
     pub at_next : length after ≤ length cells + length (drop start points) → length (points ++ new) ≤ fetch_limit
         → IsAt image entry after (points ++ new) (edges ++ more) (length points)
     at_next room few =
-        let Each : List Point → Type 0 = λ ps. AllZip (IsEdge (successors image entry) image after) ps (edges ++ more) in
+        let Each : List Point → Type 0 =
+        λ ps. AllZip (IsEdge (successors image entry) image after) ps (edges ++ more) in
         let front : take (length points) (points ++ new) ≡ points = take_at points new (length points) refl in
         let back : drop (length points) (points ++ new) ≡ new = drop_at points new (length points) refl in
         let Points : List Point → Type 0 = ArePoints image after in
-        let Before : List Configuration → Type 0 = λ cs. IsWalked (successors image entry) image entry cs (configurations_at after new) in
+        let Before : List Configuration → Type 0 =
+        λ cs. IsWalked (successors image entry) image entry cs (configurations_at after new) in
         let Last : List Point → Type 0 =
-        λ ps. IsWalked (successors image entry) image entry (configurations_at after (take (length points) (points ++ new))) (configurations_at after ps) in
+        λ ps. IsWalked (successors image entry) image entry
+        (configurations_at after (take (length points) (points ++ new))) (configurations_at after ps) in
         record {
           are_cells = are_cells;
           are_points =
               all-append (IsPoint image after) points new
-              (all-weaker (IsPoint image cells) (IsPoint image after) (same-point image cells after goes_on) points at.are_points)
-              (are_new (successors image entry) image after (take start points) (drop start points) more found new are_cells still_first still_last
+              (all-weaker (IsPoint image cells) (IsPoint image after) (same-point image cells after goes_on) points
+              at.are_points)
+              (are_new (successors image entry) image after (take start points) (drop start points) more found new
+              are_cells still_first still_last
               each same sorted are_cut);
           within = omega (arith, length-append points new);
           each =
               subst Each (cut ∙ sym front)
-              (zip-append (IsEdge (successors image entry) image after) (take start points) (drop start points) edges more
-              (zip-weaker (IsPoint image cells) (IsEdge (successors image entry) image cells) (IsEdge (successors image entry) image after)
-              (same-edge (successors image entry) image cells after goes_on) (take start points) edges are_first at.each)
+              (zip-append (IsEdge (successors image entry) image after) (take start points) (drop start points) edges
+              more
+              (zip-weaker (IsPoint image cells) (IsEdge (successors image entry) image cells)
+              (IsEdge (successors image entry) image after)
+              (same-edge (successors image entry) image cells after goes_on) (take start points) edges are_first
+              at.each)
               each);
           room = omega (arith, room, at.room, at.within, length-drop start points);
           walked =
               subst Last (sym back)
               (subst Before (whole ∙ ap (configurations_at after) (sym front))
               (walked_more (successors image entry) image entry (configurations_at after (take start points))
-              (configurations_at after (drop start points)) walked (configurations_at after new) faultless next (omega (arith, few, as_many))));
+              (configurations_at after (drop start points)) walked (configurations_at after new) faultless next
+              (omega (arith, few, as_many))));
         }
 
   -- the layer is followed, from points that are those so far
   module _ {seen : List Point} (seen_is : seen ≡ points) {after : List StackCell} {after_edges : List Edges}
-      (seen_followed : AreAllFollowed (successors image entry) image cells after (drop start seen) edges after_edges) where
-    -- the layer of the points so far is followed
-    followed : AreAllFollowed (successors image entry) image cells after (drop start points) edges after_edges
-    followed =
-        let P : List Point → Type 0 = λ ps. AreAllFollowed (successors image entry) image cells after (drop start ps) edges after_edges in
-        subst P seen_is seen_followed
+      (seen_followed : AreAllFollowed (successors image entry) image cells after (drop start seen) edges after_edges)
+    where
+      -- the layer of the points so far is followed
+      followed : AreAllFollowed (successors image entry) image cells after (drop start points) edges after_edges
+      followed =
+          let P : List Point → Type 0 =
+          λ ps. AreAllFollowed (successors image entry) image cells after (drop start ps) edges after_edges in
+          subst P seen_is seen_followed
 
-    -- there were edges for the points before the layer
-    edges-long : length edges ≡ start
-    edges-long =
-        sym (zip-length (IsEdge (successors image entry) image cells) (take start points) edges at.each) ∙ length-take-le start points at.within
+      -- there were edges for the points before the layer
+      edges-long : length edges ≡ start
+      edges-long =
+          sym (zip-length (IsEdge (successors image entry) image cells) (take start points) edges at.each)
+          ∙ length-take-le start points at.within
 
-    -- there are edges for each point so far
-    pub all-edges : length after_edges ≡ length points
-    all-edges =
-        omega (
-          arith,
-          ap length followed.is,
-          length-append edges followed.more,
-          edges-long,
-          sym (zip-length (IsEdge (successors image entry) image after) (drop start points) followed.more followed.each),
-          length-drop start points,
-          at.within,
-        )
+      -- there are edges for each point so far
+      pub all-edges : length after_edges ≡ length points
+      all-edges =
+          omega (
+            arith,
+            ap length followed.is,
+            length-append edges followed.more,
+            edges-long,
+            sym (zip-length (IsEdge (successors image entry) image after) (drop start points) followed.more
+                followed.each),
+            length-drop start points,
+            at.within,
+          )
 
-    -- the next layer is numbered, from edges that are those
-    module _ {seen_edges : List Edges} (seen_edges_are : seen_edges ≡ after_edges) {after_points : List Point}
-        (are_cells : AreCells after) (numbered : AreNumbered after (drop start seen_edges) points after_points) where
-      -- the edges of the layer
-      new_edges : drop start seen_edges ≡ followed.more
-      new_edges = ap (drop start) (seen_edges_are ∙ followed.is) ∙ drop_at edges followed.more start edges-long
+      -- the next layer is numbered, from edges that are those
+      module _ {seen_edges : List Edges} (seen_edges_are : seen_edges ≡ after_edges) {after_points : List Point}
+          (are_cells : AreCells after) (numbered : AreNumbered after (drop start seen_edges) points after_points) where
+        -- the edges of the layer
+        new_edges : drop start seen_edges ≡ followed.more
+        new_edges = ap (drop start) (seen_edges_are ∙ followed.is) ∙ drop_at edges followed.more start edges-long
 
-      -- what is found is where they lead to
-      same_more : IsPermutation (flat_map points_of followed.more) numbered.found
-      same_more =
-          let P : List Edges → Type 0 = λ es. IsPermutation (flat_map points_of es) numbered.found in subst P new_edges numbered.same
+        -- what is found is where they lead to
+        same_more : IsPermutation (flat_map points_of followed.more) numbered.found
+        same_more =
+            let P : List Edges → Type 0 =
+            λ es. IsPermutation (flat_map points_of es) numbered.found in subst P new_edges numbered.same
 
-      -- with the next layer the limit is passed
-      pub layer_passes_limit : fetch_limit < length after_points → IsRefused (successors image entry) image entry (TooManyFetches fetch_limit)
-      layer_passes_limit many =
-          passes_limit after followed.more numbered.found numbered.new followed.goes_on are_cells followed.each same_more numbered.sorted numbered.are
-          (omega (arith, many, ap length numbered.is))
+        -- with the next layer the limit is passed
+        pub layer_passes_limit : fetch_limit < length after_points
+            → IsRefused (successors image entry) image entry (TooManyFetches fetch_limit)
+        layer_passes_limit many =
+            passes_limit after followed.more numbered.found numbered.new followed.goes_on are_cells followed.each
+            same_more numbered.sorted numbered.are
+            (omega (arith, many, ap length numbered.is))
 
-      -- within the limit the search is at the next layer
-      pub layer_next : length after_points ≤ fetch_limit → IsAt image entry after after_points after_edges (length points)
-      layer_next few =
-          let Q : List Point → Type 0 = λ ps. IsAt image entry after ps after_edges (length points) in
-          let R : List Edges → Type 0 = λ es. IsAt image entry after (points ++ numbered.new) es (length points) in
-          subst Q (sym numbered.is)
-          (subst R (sym followed.is)
-          (at_next after followed.more numbered.found numbered.new followed.goes_on are_cells followed.each same_more numbered.sorted
-          numbered.are followed.few (omega (arith, few, ap length numbered.is))))
+        -- within the limit the search is at the next layer
+        pub layer_next : length after_points ≤ fetch_limit
+            → IsAt image entry after after_points after_edges (length points)
+        layer_next few =
+            let Q : List Point → Type 0 = λ ps. IsAt image entry after ps after_edges (length points) in
+            let R : List Edges → Type 0 = λ es. IsAt image entry after (points ++ numbered.new) es (length points) in
+            subst Q (sym numbered.is)
+            (subst R (sym followed.is)
+            (at_next after followed.more numbered.found numbered.new followed.goes_on are_cells followed.each same_more
+            numbered.sorted
+            numbered.are followed.few (omega (arith, few, ap length numbered.is))))

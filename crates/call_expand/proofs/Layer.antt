@@ -29,7 +29,8 @@ use Rattle.call_expand.proofs.Ordered.{point_total, same_point}
 use Rattle.call_expand.proofs.New.{new-listed, new-unseen, new-all, new-sorted}
 
 -- a list in order by what a function gives is so given in order
-sorted-map : {X Y : Type 0} (order : Y → Y → Ordering) (f : X → Y) (xs : List X) → IsStrictlySortedBy (λ a b. order (f a) (f b)) xs
+sorted-map : {X Y : Type 0} (order : Y → Y → Ordering) (f : X → Y) (xs : List X)
+    → IsStrictlySortedBy (λ a b. order (f a) (f b)) xs
     → IsStrictlySortedBy order (map f xs)
 unfolding IsStrictlySortedBy
 sorted-map order f [] sorted = tt
@@ -53,7 +54,8 @@ module _ (step : Step) (image : Image) (cells : List StackCell) where
       (Contains-append_cases (points_of edge) (flat_map points_of edges) p has)
 
   -- a successor of such a one is a point that they lead to
-  pub edge-to : (points : List Point) (edges : List Edges) (q : Point) (c : Configuration) → AllZip (IsEdge step image cells) points edges
+  pub edge-to : (points : List Point) (edges : List Edges) (q : Point) (c : Configuration)
+      → AllZip (IsEdge step image cells) points edges
       → Contains points q → IsSuccessor step (configuration_at cells q) c
       → (p : Point) × Contains (flat_map points_of edges) p × (configuration_at cells p ≡ c)
   edge-to [] edges q c each has follows = absurd (has-none q has)
@@ -78,16 +80,20 @@ module _ (step : Step) (image : Image) (cells : List StackCell) where
   edges-points [] (edge ∷ edges) each = absurd each
   edges-points (q ∷ points) [] each = absurd each
   edges-points (q ∷ points) (edge ∷ edges) each =
-      all-append (IsPoint image cells) (points_of edge) (flat_map points_of edges) each.0.points (edges-points points edges each.1)
+      all-append (IsPoint image cells) (points_of edge) (flat_map points_of edges) each.0.points
+      (edges-points points edges each.1)
 
   module _ (before last : List Point) (more : List Edges) (found new : List Point) (are_cells : AreCells cells)
-      (are_before : ArePoints image cells before) (are_last : ArePoints image cells last) (each : AllZip (IsEdge step image cells) last more)
-      (same : IsPermutation (flat_map points_of more) found) (sorted : IsSorted (point_cmp cells) found) (are : AreNew (before ++ last) found new) where
+      (are_before : ArePoints image cells before) (are_last : ArePoints image cells last)
+      (each : AllZip (IsEdge step image cells) last more)
+      (same : IsPermutation (flat_map points_of more) found) (sorted : IsSorted (point_cmp cells) found)
+      (are : AreNew (before ++ last) found new) where
     -- what is found are points
     pub are_found : ArePoints image cells found
     are_found = all-from_each (IsPoint image cells) found (λ p has.
         each-has (IsPoint image cells) (flat_map points_of more) (edges-points last more each) p
-        (Contains-permutation found (flat_map points_of more) p (IsPermutation-sym (flat_map points_of more) found same) has))
+        (Contains-permutation found (flat_map points_of more) p (IsPermutation-sym (flat_map points_of more) found same)
+        has))
 
     -- the new ones are points
     pub are_new : ArePoints image cells new
@@ -95,26 +101,31 @@ module _ (step : Step) (image : Image) (cells : List StackCell) where
         each-has (IsPoint image cells) found are_found p (new-listed found (before ++ last) new are p has))
 
     -- points of one configuration among these are the same
-    one_point : (a b : Point) → IsPoint image cells a → IsPoint image cells b → configuration_at cells a ≡ configuration_at cells b → a ≡ b
+    one_point : (a b : Point) → IsPoint image cells a → IsPoint image cells b
+        → configuration_at cells a ≡ configuration_at cells b → a ≡ b
     one_point a b first second is = same_point cells a b are_cells first.known second.known is
 
     -- a configuration is that of a point
-    before_last : configurations_at cells (before ++ last) ≡ configurations_at cells before ++ configurations_at cells last
+    before_last : configurations_at cells (before ++ last)
+        ≡ configurations_at cells before ++ configurations_at cells last
     before_last = map-append (configuration_at cells) before last
 
     -- the new points are the next layer
-    pub are_next : AreNext step configuration_cmp (configurations_at cells before) (configurations_at cells last) (configurations_at cells new)
+    pub are_next : AreNext step configuration_cmp (configurations_at cells before) (configurations_at cells last)
+        (configurations_at cells new)
     are_next = record {
       sorted =
           sorted-map configuration_cmp (configuration_at cells) new
           (new-sorted (point_cmp cells) (IsPoint image cells) (point_total cells)
-          (λ a b first second tie. one_point a b first second (same-from_equal (configuration_at cells a) (configuration_at cells b) tie)) found
+          (λ a b first second tie. one_point a b first second
+          (same-from_equal (configuration_at cells a) (configuration_at cells b) tie)) found
           (before ++ last) new are_found sorted are);
       follow = λ c has.
           let p = from-map (configuration_at cells) new c has in
           let listed = new-listed found (before ++ last) new are p.0 p.1 in
           let q = edge-from last more p.0 each
-          (Contains-permutation found (flat_map points_of more) p.0 (IsPermutation-sym (flat_map points_of more) found same) listed) in
+          (Contains-permutation found (flat_map points_of more) p.0
+          (IsPermutation-sym (flat_map points_of more) found same) listed) in
           let P : Configuration → Type 0 = λ c. IsSuccessor step (configuration_at cells q.0) c in
           (configuration_at cells q.0, has-map (configuration_at cells) last q.0 q.1, subst P p.2 q.2);
       unseen = λ c has old.
@@ -130,9 +141,15 @@ module _ (step : Step) (image : Image) (cells : List StackCell) where
           let q = from-map (configuration_at cells) last b has in
           let P : Configuration → Type 0 = λ b. IsSuccessor step b c in
           let p = edge-to last more q.0 c each q.1 (subst P (sym q.2) follows) in
-          let known = new-all found (before ++ last) new are p.0 (Contains-permutation (flat_map points_of more) found p.0 same p.1) in
+          let known =
+          new-all found (before ++ last) new are p.0
+          (Contains-permutation (flat_map points_of more) found p.0 same p.1) in
           let Q : List Configuration → Type 0 = λ cs. Contains cs (configuration_at cells p.0) in
-          let R : Configuration → Type 0 = λ c. Contains ((configurations_at cells before ++ configurations_at cells last) ++ configurations_at cells new) c in
-          let whole = map-append (configuration_at cells) (before ++ last) new ∙ ap (λ cs. cs ++ configurations_at cells new) before_last in
+          let R : Configuration → Type 0 =
+          λ c. Contains
+          ((configurations_at cells before ++ configurations_at cells last) ++ configurations_at cells new) c in
+          let whole =
+          map-append (configuration_at cells) (before ++ last) new
+          ∙ ap (λ cs. cs ++ configurations_at cells new) before_last in
           subst R p.2 (subst Q whole (has-map (configuration_at cells) ((before ++ last) ++ new) p.0 known));
     }

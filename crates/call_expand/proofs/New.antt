@@ -14,19 +14,24 @@ use Rattle.call_expand.specs.declared.point.Point.{Point}
 use Rattle.call_expand.specs.Numbers.{AreNew}
 
 -- a new one is one of the points
-pub new-listed : (found seen more : List Point) → AreNew seen found more → (point : Point) → Contains more point → Contains found point
+pub new-listed : (found seen more : List Point) → AreNew seen found more → (point : Point) → Contains more point
+    → Contains found point
 new-listed [] seen more are point has =
     let P : List Point → Type 0 = λ more. Contains more point in absurd (has-none point (subst P are has))
-new-listed (first ∷ found) seen more (inl old) point has = has-later first point found (new-listed found seen more old.1 point has)
+new-listed (first ∷ found) seen more (inl old) point has =
+    has-later first point found (new-listed found seen more old.1 point has)
 new-listed (first ∷ found) seen more (inr new) point has =
     let P : List Point → Type 0 = λ more. Contains more point in
     ⊎_elim
-    (λ (same : point ≡ first). let Q : Point → Type 0 = λ p. Contains (first ∷ found) p in subst Q (sym same) (has-first first found))
-    (λ (rest : Contains new.1 point). has-later first point found (new-listed found (seen ++ first ∷ []) new.1 new.3 point rest))
+    (λ (same : point ≡ first). let Q : Point → Type 0 = λ p. Contains (first ∷ found) p in subst Q (sym same)
+    (has-first first found))
+    (λ (rest : Contains new.1 point). has-later first point found
+    (new-listed found (seen ++ first ∷ []) new.1 new.3 point rest))
     (has-cases first point new.1 (subst P new.2 has))
 
 -- a new one wasn't seen
-pub new-unseen : (found seen more : List Point) → AreNew seen found more → (point : Point) → Contains more point → Contains seen point → ⊥
+pub new-unseen : (found seen more : List Point) → AreNew seen found more → (point : Point) → Contains more point
+    → Contains seen point → ⊥
 new-unseen [] seen more are point has old =
     let P : List Point → Type 0 = λ more. Contains more point in has-none point (subst P are has)
 new-unseen (first ∷ found) seen more (inl before) point has old = new-unseen found seen more before.1 point has old
@@ -39,7 +44,8 @@ new-unseen (first ∷ found) seen more (inr new) point has old =
     (has-cases first point new.1 (subst P new.2 has))
 
 -- each point was seen or is new
-pub new-all : (found seen more : List Point) → AreNew seen found more → (point : Point) → Contains found point → Contains (seen ++ more) point
+pub new-all : (found seen more : List Point) → AreNew seen found more → (point : Point) → Contains found point
+    → Contains (seen ++ more) point
 new-all [] seen more are point has = absurd (has-none point has)
 new-all (first ∷ found) seen more (inl before) point has =
     ⊎_elim
@@ -73,14 +79,17 @@ behind Greater Greater turned not_before apart = absurd (cc)
 pub not_before-first : (order : Point → Point → Ordering) → IsTotalOrder order → (first : Point) (points : List Point)
     → IsSorted order (first ∷ points) → (point : Point) → Contains points point → is_lt (order point first) ≡ false
 not_before-first order total first points sorted point has =
-    let same : get_or (first ∷ points) (has.0 + 1) point ≡ point = ap (λ i. get_or (first ∷ points) i point) (add-one has.0) ∙ has.2 in
+    let same : get_or (first ∷ points) (has.0 + 1) point ≡ point =
+    ap (λ i. get_or (first ∷ points) i point) (add-one has.0) ∙ has.2 in
     let P : Point → Type 0 = λ p. is_lt (order p first) ≡ false in
     subst P same
-    (sorted_far (λ a b. is_lt (order a b)) (ranks_by total (λ (p : Point). p)) (first ∷ points) sorted 0 (has.0 + 1) point (omega arith)
+    (sorted_far (λ a b. is_lt (order a b)) (ranks_by total (λ (p : Point). p)) (first ∷ points) sorted 0 (has.0 + 1)
+    point (omega arith)
     (omega (arith, has.1)))
 
 -- a list in order goes on in order
-sorted-rest : (order : Point → Point → Ordering) (first : Point) (points : List Point) → IsSorted order (first ∷ points) → IsSorted order points
+sorted-rest : (order : Point → Point → Ordering) (first : Point) (points : List Point) → IsSorted order (first ∷ points)
+    → IsSorted order points
 sorted-rest order first points sorted k d low below =
     let step = sorted (k + 1) d (omega arith) (omega arith) in
     let P : ℕ → ℕ → Type 0 = λ i j. is_lt (order (get_or (first ∷ points) i d) (get_or (first ∷ points) j d)) ≡ false in
@@ -99,10 +108,13 @@ new-sorted order Known total same (first ∷ found) seen more known sorted (inl 
     new-sorted order Known total same found seen more known.1 (sorted-rest order first found sorted) before.1
 new-sorted order Known total same (first ∷ found) seen more known sorted (inr new) =
     let P : List Point → Type 0 = λ more. IsStrictlySortedBy order more in
-    let rest = new-sorted order Known total same found (seen ++ first ∷ []) new.1 known.1 (sorted-rest order first found sorted) new.3 in
+    let rest =
+    new-sorted order Known total same found (seen ++ first ∷ []) new.1 known.1 (sorted-rest order first found sorted)
+    new.3 in
     let after = all-from_each (λ (point : Point). order first point ≡ Less) new.1 (λ point has.
     let listed = new-listed found (seen ++ first ∷ []) new.1 new.3 point has in
-    behind (order first point) (order point first) (total.antisymm first point) (not_before-first order total first found sorted point listed)
+    behind (order first point) (order point first) (total.antisymm first point)
+    (not_before-first order total first found sorted point listed)
     (λ tie.
     let one = same first point known.0 (each-has Known found known.1 point listed) tie in
     let Q : Point → Type 0 = λ p. Contains (seen ++ first ∷ []) p in

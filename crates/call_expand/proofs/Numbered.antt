@@ -32,7 +32,8 @@ listed-at points n p at = (n, slice_get_within points n p at, get_or_from_slice_
 
 -- what the map has of a point is its number, or it isn't listed
 pub number-found : (points : List Point) (numbers : Numbers) → AreNumbers points numbers → (p : Point) (o : Option ℕ)
-    → o ≡ get pair_cmp numbers (p.at, p.stack) → MatchOption o (Contains points p → ⊥) (λ n. slice_get points n ≡ Some p)
+    → o ≡ get pair_cmp numbers (p.at, p.stack)
+    → MatchOption o (Contains points p → ⊥) (λ n. slice_get points n ≡ Some p)
 number-found points numbers are p None is =
     λ has. let at = stands points p has in none-some at.0 (is ∙ are.found at.0 p at.1)
 number-found points numbers are p (Some n) is = are.only n p (sym is)
@@ -41,7 +42,8 @@ number-found points numbers are p (Some n) is = are.only n p (sym is)
 same-key : (p q : Point) → pair_cmp (p.at, p.stack) (q.at, q.stack) ≡ Equal → p ≡ q
 same-key p q equal =
     let both = then_equal (nat_cmp p.at q.at) (nat_cmp p.stack q.stack) equal in
-    point-parts p.at q.at p.stack q.stack (nat_equal p.at q.at (nat_cmp p.at q.at) refl both.0) (nat_equal p.stack q.stack (nat_cmp p.stack q.stack) refl both.1)
+    point-parts p.at q.at p.stack q.stack (nat_equal p.at q.at (nat_cmp p.at q.at) refl both.0)
+    (nat_equal p.stack q.stack (nat_cmp p.stack q.stack) refl both.1)
 
 -- a test of an order, and its cases
 is-equal : (o : Ordering) → is_eq o ≡ true → o ≡ Equal
@@ -68,7 +70,8 @@ at-push points p q n at =
     (cases_lt n (length points))
 
 -- the elements of a list with one more
-front-push : (points : List Point) (p q : Point) (n : ℕ) → slice_get points n ≡ Some q → slice_get (points ++ p ∷ []) n ≡ Some q
+front-push : (points : List Point) (p q : Point) (n : ℕ) → slice_get points n ≡ Some q
+    → slice_get (points ++ p ∷ []) n ≡ Some q
 front-push points p q n at =
     let within = slice_get_within points n q at in
     slice_get-get_or (points ++ p ∷ []) n q (omega (arith, length_push points p))
@@ -80,8 +83,10 @@ last-push points p =
     ∙ ap Some (get_or_push points p p (length points) refl)
 
 -- the map with one more point
-pub numbers-push : (points : List Point) (before after : Numbers) (p : Point) (number : ℕ) → number ≡ length points → AreNumbers points before
-    → (Contains points p → ⊥) → Updates pair_cmp before after (p.at, p.stack) (Some number) → AreNumbers (points ++ p ∷ []) after
+pub numbers-push : (points : List Point) (before after : Numbers) (p : Point) (number : ℕ) → number ≡ length points
+    → AreNumbers points before
+    → (Contains points p → ⊥) → Updates pair_cmp before after (p.at, p.stack) (Some number)
+    → AreNumbers (points ++ p ∷ []) after
 numbers-push points before after p number is_length are new updates = record {
   found = λ n q at.
       ⊎_elim
@@ -126,10 +131,12 @@ pub record AreAdded (initial : List Point) (found : List Point) (i : ℕ) (now :
   pub rest : (rest : List Point) → AreNew now (drop i found) rest → AreNew initial found (more ++ rest)
 
 -- one point more
-pub added-more : (initial found : List Point) (i : ℕ) (now after : List Point) (p d : Point) → i < length found → p ≡ get_or found i d
+pub added-more : (initial found : List Point) (i : ℕ) (now after : List Point) (p d : Point) → i < length found
+    → p ≡ get_or found i d
     → AreAdded initial found i now → IsAdded now p after → AreAdded initial found (i + 1) after
 added-more initial found i now after p d within here added (inl old) =
-    let next : drop i found ≡ p ∷ drop (i + 1) found = drop_more found i d within ∙ ap (λ p. p ∷ drop (i + 1) found) (sym here) in
+    let next : drop i found ≡ p ∷ drop (i + 1) found =
+    drop_more found i d within ∙ ap (λ p. p ∷ drop (i + 1) found) (sym here) in
     record {
       more = added.more;
       is = old.1 ∙ added.is;
@@ -140,7 +147,8 @@ added-more initial found i now after p d within here added (inl old) =
           added.rest rest (subst P (sym next) (inl (old.0, subst Q old.1 new)));
     }
 added-more initial found i now after p d within here added (inr fresh) =
-    let next : drop i found ≡ p ∷ drop (i + 1) found = drop_more found i d within ∙ ap (λ p. p ∷ drop (i + 1) found) (sym here) in
+    let next : drop i found ≡ p ∷ drop (i + 1) found =
+    drop_more found i d within ∙ ap (λ p. p ∷ drop (i + 1) found) (sym here) in
     record {
       more = added.more ++ p ∷ [];
       is = fresh.1 ∙ ap (λ ps. ps ++ p ∷ []) added.is ∙ append_assoc initial added.more (p ∷ []);
@@ -162,8 +170,10 @@ added-all initial found now i past added =
     (added.more, added.is, subst Q (append-nil added.more) (added.rest [] (subst P (sym (drop_all i found past)) refl)))
 
 -- the points of one edge more
-pub found-more : (edges : List Edges) (i : ℕ) (d edge : Edges) (found first second : List Point) → i < length edges → edge ≡ get_or edges i d
-    → found ≡ flat_map points_of (take i edges) → first ≡ found ++ option_to_list edge.first → second ≡ first ++ option_to_list edge.second
+pub found-more : (edges : List Edges) (i : ℕ) (d edge : Edges) (found first second : List Point) → i < length edges
+    → edge ≡ get_or edges i d
+    → found ≡ flat_map points_of (take i edges) → first ≡ found ++ option_to_list edge.first
+    → second ≡ first ++ option_to_list edge.second
     → second ≡ flat_map points_of (take (i + 1) edges)
 found-more edges i d edge found first second within here was one two =
     two
@@ -193,16 +203,18 @@ length-points (edge ∷ edges) =
     )
 
 -- the points of one of the edges
-pub among-at : (all : List Point) (edges : List Edges) (i : ℕ) (d : Edges) → AreAmong all (flat_map points_of edges) → i < length edges
+pub among-at : (all : List Point) (edges : List Edges) (i : ℕ) (d : Edges) → AreAmong all (flat_map points_of edges)
+    → i < length edges
     → AreAmong all (points_of (get_or edges i d))
 among-at all [] i d among below = absurd (omega arith)
-among-at all (edge ∷ edges) zero d among below = all-front (Contains all) (points_of edge) (flat_map points_of edges) among
+among-at all (edge ∷ edges) zero d among below =
+    all-front (Contains all) (points_of edge) (flat_map points_of edges) among
 among-at all (edge ∷ edges) (suc i) d among below =
     among-at all edges i d (all-back (Contains all) (points_of edge) (flat_map points_of edges) among) (omega arith)
 
 -- one node more
-pub nodes-more : (all points : List Point) (edges : List Edges) (nodes : List Node) (i : ℕ) (p : Point) (e : Edges) (node : Node)
-    → i < length points → i < length edges → AreNodesFor all (take i points) (take i edges) nodes
+pub nodes-more : (all points : List Point) (edges : List Edges) (nodes : List Node) (i : ℕ) (p : Point) (e : Edges)
+    (node : Node) → i < length points → i < length edges → AreNodesFor all (take i points) (take i edges) nodes
     → IsNodeFor all (get_or points i p) (get_or edges i e) node
     → AreNodesFor all (take (suc i) points) (take (suc i) edges) (nodes ++ node ∷ [])
 nodes-more all [] edges nodes i p e node first second are is = absurd (omega arith)

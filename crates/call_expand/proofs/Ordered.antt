@@ -47,7 +47,8 @@ pub point-parts : (p q s t : ℕ) → p ≡ q → s ≡ t → point p s ≡ poin
 point-parts p q s t at stack = cc
 
 -- points of one configuration are the same
-pub same_point : (cells : List StackCell) (a b : Point) → AreCells cells → a.stack ≤ length cells → b.stack ≤ length cells
+pub same_point : (cells : List StackCell) (a b : Point) → AreCells cells → a.stack ≤ length cells
+    → b.stack ≤ length cells
     → configuration_at cells a ≡ configuration_at cells b → a ≡ b
 same_point cells a b are first second same =
     let frames : frames_of cells a.stack ≡ frames_of cells b.stack = ap (λ (c : Configuration). c.frames) same in
@@ -55,9 +56,11 @@ same_point cells a b are first second same =
     point-parts a.at b.at a.stack b.stack at (are.alone a.stack b.stack first second frames)
 
 -- a sort whose calls answer by the order leaves points in that order
-pub sorted-by : (cells : List StackCell) {F : Type 0} {g : Mut F (Bor Point × (Bor Point × Unit {0})) Ordering} {f : F} (points : List Point)
+pub sorted-by : (cells : List StackCell) {F : Type 0} {g : Mut F (Bor Point × (Bor Point × Unit {0})) Ordering}
+    {f : F} (points : List Point)
     → ((lt : Point → Point → Bool) → IsStrictWeakOrder lt → ComparesAs g lt f → IsSortedBy lt points)
-    → ((a : Bor Point × (Bor Point × Unit {0})) (r : Ordering) (f' : F) → Called g f a r f' → (r ≡ point_cmp cells a.0.now a.1.0.now) × (f' ≡ f))
+    → ((a : Bor Point × (Bor Point × Unit {0})) (r : Ordering) (f' : F) → Called g f a r f'
+    → (r ≡ point_cmp cells a.0.now a.1.0.now) × (f' ≡ f))
     → IsSorted (point_cmp cells) points
 sorted-by cells points sorted calls =
     sorted (λ a b. is_lt (point_cmp cells a b)) (point_ranks cells)

@@ -43,12 +43,16 @@ module _ {C F : Type 0} (step : C → Result (List C) F) (start : C) (order : C 
   first_layer = record {
     sorted = (tt, tt);
     members = λ c. (
-      λ has. record { reached = ([], refl, has-only start c has); no_sooner = λ m sooner reached. absurd (omega arith) },
+      λ has. record {
+        reached = ([], refl, has-only start c has);
+        no_sooner = λ m sooner reached. absurd (omega arith);
+      },
       λ layer. (0, lit< tt, sym (short layer.reached.0 c layer.reached.1 layer.reached.2)),
     );
   }
 
-  module _ (n : ℕ) (before last next : List C) (searched : IsSearched step start n before last) (is : AreNext step order before last next) where
+  module _ (n : ℕ) (before last next : List C) (searched : IsSearched step start n before last)
+      (is : AreNext step order before last next) where
     -- a state of the next list is reached one step later
     next_reached : (c : C) → Contains next c → IsReachedIn step start (n + 1) c
     next_reached c has =
@@ -62,7 +66,8 @@ module _ {C F : Type 0} (step : C → Result (List C) F) (start : C) (order : C 
           | inl same ↦
               let from = longer reached.0 c n (omega (arith, reached.1)) reached.2 in
               ⊎_elim
-              (λ (has : Contains before from.0). Contains-append_left (before ++ last) next c (searched.closed from.0 c has from.2))
+              (λ (has : Contains before from.0). Contains-append_left (before ++ last) next c
+              (searched.closed from.0 c has from.2))
               (λ (has : Contains last from.0). is.all from.0 c has from.2)
               (Contains-append_cases before last from.0 (searched.covered n from.0 (omega arith) from.1))
           | inr sooner ↦ Contains-append_left (before ++ last) next c (searched.covered m c (omega arith) reached)
@@ -106,7 +111,8 @@ module _ {C F : Type 0} (step : C → Result (List C) F) (start : C) (order : C 
     }
 
   -- one layer more
-  pub layers_more : (k j : ℕ) (layers : List (List C)) (layer : List C) → k + length layers ≡ j → AreLayersFrom step start order k layers
+  pub layers_more : (k j : ℕ) (layers : List (List C)) (layer : List C) → k + length layers ≡ j
+      → AreLayersFrom step start order k layers
       → IsLayer step start order j layer → AreLayersFrom step start order k (layers ++ layer ∷ [])
   layers_more k j [] layer at are is =
       let P : ℕ → Type 0 = λ j. IsLayer step start order j layer in

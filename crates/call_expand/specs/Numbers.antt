@@ -17,8 +17,10 @@ pair_cmp a b = ordering_then (nat_cmp a.0 b.0) (nat_cmp a.1 b.1)
 
 -- the map has the index of each of these points as its number, and no other number
 pub record AreNumbers (points : List Point) (numbers : BTreeMap (ℕ × ℕ) ℕ) : Type 0 where
-  pub found : (n : ℕ) (point : Point) → slice_get points n ≡ Some point → get pair_cmp numbers (point.at, point.stack) ≡ Some n
-  pub only : (n : ℕ) (point : Point) → get pair_cmp numbers (point.at, point.stack) ≡ Some n → slice_get points n ≡ Some point
+  pub found : (n : ℕ) (point : Point) → slice_get points n ≡ Some point
+      → get pair_cmp numbers (point.at, point.stack) ≡ Some n
+  pub only : (n : ℕ) (point : Point) → get pair_cmp numbers (point.at, point.stack) ≡ Some n
+      → slice_get points n ≡ Some point
 
 -- no point is listed twice
 abbrev pub AreApart : List Point → Type 0
@@ -26,7 +28,8 @@ AreApart points = (n m : ℕ) (point : Point) → slice_get points n ≡ Some po
 
 -- the point was listed before, or is now, after the others
 abbrev pub IsAdded : List Point → Point → List Point → Type 0
-IsAdded before point after = (Contains before point × (after ≡ before)) ⊎ ((Contains before point → ⊥) × (after ≡ before ++ point ∷ []))
+IsAdded before point after =
+    (Contains before point × (after ≡ before)) ⊎ ((Contains before point → ⊥) × (after ≡ before ++ point ∷ []))
 
 -- those of found that aren't among the seen, each once and in their order
 abbrev pub AreNew : List Point → List Point → List Point → Type 0
@@ -51,7 +54,8 @@ pub record IsNodeFor (points : List Point) (point : Point) (edges : Edges) (node
 -- the nodes of all these points, each with its edges
 abbrev pub AreNodesFor : List Point → List Point → List Edges → List Node → Type 0
 AreNodesFor all [] [] [] = Unit {0}
-AreNodesFor all (point ∷ points) (edge ∷ edges) (node ∷ nodes) = IsNodeFor all point edge node × AreNodesFor all points edges nodes
+AreNodesFor all (point ∷ points) (edge ∷ edges) (node ∷ nodes) =
+    IsNodeFor all point edge node × AreNodesFor all points edges nodes
 AreNodesFor all _ _ _ = ⊥
 
 -- each of these points is one of those

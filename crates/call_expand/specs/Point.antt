@@ -71,14 +71,17 @@ pub record AreExpanded (cells : List StackCell) (points : List Point) (nodes : L
   pub as_many : length nodes ≡ length points
 
 -- a call leads to its target, on a stack of the frames so far and the one that it opens
-pub record Opens (entry : ℕ) (before after : List StackCell) (point : Point) (target : ℕ) (frame : Frame) (edges : Edges) : Type 0 where
+pub record Opens (entry : ℕ) (before after : List StackCell) (point : Point) (target : ℕ) (frame : Frame)
+    (edges : Edges) : Type 0 where
   pub stack : ℕ
   pub is : edges ≡ record { first = Some (record { at = target; stack = stack }); second = None }
   pub known : stack ≤ length after
-  pub goes : leads_to entry (frames_of before point.stack) point.at (Enter target frame) ≡ Ok (configuration (frames_of after stack) target ∷ [])
+  pub goes : leads_to entry (frames_of before point.stack) point.at (Enter target frame)
+      ≡ Ok (configuration (frames_of after stack) target ∷ [])
 
 -- all these points are followed: their edges stand after the others, and there is at most one cell more for each
-pub record AreAllFollowed (step : Step) (image : Image) (before after : List StackCell) (points : List Point) (old new : List Edges) : Type 0 where
+pub record AreAllFollowed (step : Step) (image : Image) (before after : List StackCell) (points : List Point)
+    (old new : List Edges) : Type 0 where
   pub goes_on : GoesOn before after
   pub few : length after ≤ length before + length points
   pub more : List Edges

@@ -11,7 +11,12 @@ use frame_stacks::Stacks;
 use std::alloc::AllocError;
 
 // Where control goes from a point, or the fault of its configuration.
-fn edges_of(image: &Image, entry: u32, stacks: &mut Stacks, point: Point) -> Result<Edges, FlowFault>
+fn edges_of(
+    image: &Image,
+    entry: u32,
+    stacks: &mut Stacks,
+    point: Point,
+) -> Result<Edges, FlowFault>
     requires point { IsPoint image.now stacks.old point }
     requires room { length stacks.old < 2 ^ 32 - 1 }
     ensures edge { IfOk result (λ edges.

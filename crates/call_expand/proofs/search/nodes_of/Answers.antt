@@ -18,7 +18,8 @@ loop-index-preserved c =
     let edges = c.args.edges.now in
     let i = c.loop-index.index in
     let below : i < length all = omega (arith, c.requires.each, c.loop-index-test.true) in
-    let P : List Point → Type 0 = λ ps. IsNodeFor all (get_or ps i (point 0 0)) (get_or edges i none) c.node_of.result in
+    let P : List Point → Type 0 =
+    λ ps. IsNodeFor all (get_or ps i (point 0 0)) (get_or edges i none) c.node_of.result in
     let Q : ℕ → Type 0 = λ j. AreNodesFor all (take j all) (take j edges) c.push.new.self.items in
     let R : List Node → Type 0 = λ nodes. AreNodesFor all (take (suc i) all) (take (suc i) edges) nodes in
     subst Q (sym (add-one i))
