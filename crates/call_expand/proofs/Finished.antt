@@ -4,7 +4,6 @@ use Rattle.std.specs.Prelude.{slice_get, Contains, Ok, IsSome, IfSome, IfNone, f
 use Rattle.std.specs.Result.{IsOkAnd}
 use Rattle.std.specs.List.{AllByRecursion, AllZip, list_all}
 use Rattle.std.specs.Option.{option_to_list}
-use Rattle.std.specs.BTreeMap.{BTreeMap}
 use Rattle.std.proofs.lemmas.Bool.Decides.{nat_tests}
 use Rattle.std.proofs.lemmas.List.{map-append, length-map, get_or-map, take_all, drop_all}
 use Rattle.std.proofs.lemmas.Option.{slice_get_within, get_or_from_slice_get}
@@ -22,17 +21,17 @@ use Rattle.path_model.specs.Graph.{IsGraph, graph_step, successors as node_succe
 use Rattle.path_model.proofs.Edges.{node-from_successor, fit_at, below-from_fit}
 use Rattle.frame_stacks.specs.declared.stacks.StackCell.{StackCell}
 use Rattle.frame_stacks.specs.Stacks.{AreCells}
-use Rattle.call_expand.specs.declared.place.Place.{Place}
-use Rattle.call_expand.specs.declared.place.Edges.{Edges}
+use Rattle.call_expand.specs.declared.point.Point.{Point}
+use Rattle.call_expand.specs.declared.point.Edges.{Edges}
 use Rattle.call_expand.specs.Expansion.{numbered, IsNodeOf, IsGraphOf}
-use Rattle.call_expand.specs.Place.{configuration_at, configurations_at, IsPlace, places_of, IsEdge, AreExpanded}
-use Rattle.call_expand.specs.Numbers.{AreNumbers, HasNumber, IsNodeFor, AreNodesFor, AreAmong}
+use Rattle.call_expand.specs.Point.{configuration_at, configurations_at, IsPoint, points_of, IsEdge, AreExpanded}
+use Rattle.call_expand.specs.Numbers.{AreApart, HasNumber, IsNodeFor, AreNodesFor, AreAmong}
 use Rattle.call_expand.specs.Search.{IsWalked, IsAt}
 use Rattle.call_expand.proofs.Zipped.{all-weaker, all-map, zip-length, zip-at}
-use Rattle.call_expand.proofs.Ordered.{place, same_place}
+use Rattle.call_expand.proofs.Ordered.{point, same_point}
 use Rattle.call_expand.proofs.Texts.{good-text}
 use Rattle.call_expand.proofs.Walked.{walked_begin, accepted}
-use Rattle.call_expand.proofs.Layer.{edge-from, edges-places}
+use Rattle.call_expand.proofs.Layer.{edge-from, edges-points}
 use Rattle.call_expand.proofs.Paths.{links}
 use Rattle.call_expand.proofs.Numbered.{listed-at}
 
@@ -45,77 +44,84 @@ cells-none : AreCells []
 cells-none = record { below = λ k cell found. absurd (cc); alone = λ s t first second same. omega arith }
 
 -- the entry alone
-begin_at : (image : Image) (entry : ℕ) (numbers : BTreeMap (ℕ × ℕ) ℕ) → AreNumbers (place entry 0 ∷ []) numbers
-    → IsTrue (is_good_target image entry) → IsAt image entry [] (place entry 0 ∷ []) numbers [] 0
-begin_at image entry numbers are good = record {
+begin_at : (image : Image) (entry : ℕ) → IsTrue (is_good_target image entry)
+    → IsAt image entry [] (point entry 0 ∷ []) [] 0
+begin_at image entry good = record {
   are_cells = cells-none;
-  are_places = (record { known = omega arith; text = good-text image entry good }, tt);
-  are_numbers = are;
+  are_points = (record { known = omega arith; text = good-text image entry good }, tt);
   within = omega arith;
   each = tt;
   room = omega arith;
   walked = walked_begin (successors image entry) image entry good;
 }
 
--- the same, of what a call has made
-pub at_begin : (image : Image) (entry : ℕ) (cells : List StackCell) (places : List Place) (numbers : BTreeMap (ℕ × ℕ) ℕ) (edges : List Edges)
-    → cells ≡ [] → places ≡ place entry 0 ∷ [] → edges ≡ [] → AreNumbers places numbers → IsTrue (is_good_target image entry)
-    → IsAt image entry cells places numbers edges 0
-at_begin image entry cells places numbers edges no_cells one no_edges are good =
-    let P : List Place → Type 0 = λ places. AreNumbers places numbers in
-    let Q : List StackCell → Type 0 = λ cells. IsAt image entry cells places numbers edges 0 in
-    let R : List Place → Type 0 = λ places. IsAt image entry [] places numbers edges 0 in
-    let S : List Edges → Type 0 = λ edges. IsAt image entry [] (place entry 0 ∷ []) numbers edges 0 in
-    subst Q (sym no_cells) (subst R (sym one) (subst S (sym no_edges) (begin_at image entry numbers (subst P one are) good)))
+-- the entry alone, as the calls have made it
+pub at_begin : (image : Image) (entry : ℕ) (cells : List StackCell) (points : List Point) (edges : List Edges)
+    → cells ≡ []
+    → points ≡ point entry 0 ∷ [] → edges ≡ [] → IsTrue (is_good_target image entry)
+    → IsAt image entry cells points edges 0
+at_begin image entry cells points edges no_cells one no_edges good =
+    let Q : List StackCell → Type 0 = λ cells. IsAt image entry cells points edges 0 in
+    let R : List Point → Type 0 = λ points. IsAt image entry [] points edges 0 in
+    let S : List Edges → Type 0 = λ edges. IsAt image entry [] (point entry 0 ∷ []) edges 0 in
+    subst Q (sym no_cells) (subst R (sym one) (subst S (sym no_edges) (begin_at image entry good)))
 
 -- two tests that hold, hold together
 both-true : (a b : Bool) → IsTrue a → IsTrue b → IsTrue (a && b)
 both-true true b first second = second
 both-true false b first second = first
 
--- the configuration of a place with a number
-numbered-place : (cells : List StackCell) (places : List Place) (n : ℕ) (p : Place) → slice_get places n ≡ Some p
-    → numbered (configurations_at cells places) n ≡ configuration_at cells p
-numbered-place cells places n p at =
-    get_or-map (configuration_at cells) places n p (start_of 0) (slice_get_within places n p at)
-    ∙ ap (configuration_at cells) (get_or_from_slice_get places n p p at)
+-- the configuration of a point with a number
+numbered-point : (cells : List StackCell) (points : List Point) (n : ℕ) (p : Point) → slice_get points n ≡ Some p
+    → numbered (configurations_at cells points) n ≡ configuration_at cells p
+numbered-point cells points n p at =
+    get_or-map (configuration_at cells) points n p (start_of 0) (slice_get_within points n p at)
+    ∙ ap (configuration_at cells) (get_or_from_slice_get points n p p at)
 
--- the numbers of places are those of their configurations
-number-list : (cells : List StackCell) (places : List Place) (o : Option Place) (n : Option ℕ) → HasNumber places o n
-    → map (configuration_at cells) (option_to_list o) ≡ map (numbered (configurations_at cells places)) (option_to_list n)
-number-list cells places None None has = refl
-number-list cells places None (Some n) has = absurd has
-number-list cells places (Some p) None has = absurd has
-number-list cells places (Some p) (Some n) has = ap (λ (c : Configuration). c ∷ []) (sym (numbered-place cells places n p has))
+-- the numbers of points are those of their configurations
+number-list : (cells : List StackCell) (points : List Point) (o : Option Point) (n : Option ℕ) → HasNumber points o n
+    → map (configuration_at cells) (option_to_list o)
+    ≡ map (numbered (configurations_at cells points)) (option_to_list n)
+number-list cells points None None has = refl
+number-list cells points None (Some n) has = absurd has
+number-list cells points (Some p) None has = absurd has
+number-list cells points (Some p) (Some n) has =
+    ap (λ (c : Configuration). c ∷ []) (sym (numbered-point cells points n p has))
 
-module _ (step : Step) (image : Image) (cells : List StackCell) (all : List Place) where
-  -- the node of a place is that of its configuration
-  node-is : (p : Place) (edge : Edges) (node : Node) → IsEdge step image cells p edge → IsNodeFor all p edge node
+module _ (step : Step) (image : Image) (cells : List StackCell) (all : List Point) where
+  -- the node of a point is that of its configuration
+  node-is : (p : Point) (edge : Edges) (node : Node) → IsEdge step image cells p edge → IsNodeFor all p edge node
       → IsNodeOf step (configurations_at cells all) (configuration_at cells p) node
   node-is p edge node is for = record {
     at = for.at;
     goes =
         is.goes
         ∙ ap (λ cs. Ok cs) (map-append (configuration_at cells) (option_to_list edge.first) (option_to_list edge.second)
-        ∙ ap (λ cs. cs ++ map (configuration_at cells) (option_to_list edge.second)) (number-list cells all edge.first node.first for.first)
-        ∙ ap (λ cs. map (numbered (configurations_at cells all)) (option_to_list node.first) ++ cs) (number-list cells all edge.second node.second for.second)
-        ∙ sym (map-append (numbered (configurations_at cells all)) (option_to_list node.first) (option_to_list node.second)));
+        ∙ ap (λ cs. cs ++ map (configuration_at cells) (option_to_list edge.second))
+        (number-list cells all edge.first node.first for.first)
+        ∙ ap (λ cs. map (numbered (configurations_at cells all)) (option_to_list node.first) ++ cs)
+        (number-list cells all edge.second node.second for.second)
+        ∙ sym (map-append (numbered (configurations_at cells all)) (option_to_list node.first)
+        (option_to_list node.second)));
   }
 
-  -- so are the nodes of all places
-  nodes-are : (places : List Place) (edges : List Edges) (nodes : List Node) → AllZip (IsEdge step image cells) places edges
-      → AreNodesFor all places edges nodes → AllZip (IsNodeOf step (configurations_at cells all)) (configurations_at cells places) nodes
+  -- the nodes of some points are those of their configurations
+  nodes-are : (points : List Point) (edges : List Edges) (nodes : List Node)
+      → AllZip (IsEdge step image cells) points edges
+      → AreNodesFor all points edges nodes
+      → AllZip (IsNodeOf step (configurations_at cells all)) (configurations_at cells points) nodes
   nodes-are [] [] [] each are = tt
   nodes-are [] [] (node ∷ nodes) each are = absurd are
   nodes-are [] (edge ∷ edges) nodes each are = absurd each
-  nodes-are (p ∷ places) [] nodes each are = absurd each
-  nodes-are (p ∷ places) (edge ∷ edges) [] each are = absurd are
-  nodes-are (p ∷ places) (edge ∷ edges) (node ∷ nodes) each are =
-      (node-is p edge node each.0 are.0, nodes-are places edges nodes each.1 are.1)
+  nodes-are (p ∷ points) [] nodes each are = absurd each
+  nodes-are (p ∷ points) (edge ∷ edges) [] each are = absurd are
+  nodes-are (p ∷ points) (edge ∷ edges) (node ∷ nodes) each are =
+      (node-is p edge node each.0 are.0, nodes-are points edges nodes each.1 are.1)
 
   -- the numbers of edges are fit
-  fit-by : (first second : Option Place) (one other : Option ℕ) → HasNumber all first one → HasNumber all second other → (first ≡ None → second ≡ None)
-      → ((a b : Place) → first ≡ Some a → second ≡ Some b → a.at ≡ b.at → ⊥) → IsTrue (are_fit (length all) one other)
+  fit-by : (first second : Option Point) (one other : Option ℕ) → HasNumber all first one → HasNumber all second other
+      → (first ≡ None → second ≡ None)
+      → ((a b : Point) → first ≡ Some a → second ≡ Some b → a.at ≡ b.at → ⊥) → IsTrue (are_fit (length all) one other)
   fit-by None None None None has also order apart = refl
   fit-by None None None (Some n) has also order apart = absurd also
   fit-by None None (Some m) other has also order apart = absurd has
@@ -132,181 +138,208 @@ module _ (step : Step) (image : Image) (cells : List StackCell) (all : List Plac
       let P : ℕ → Type 0 = λ m. slice_get all m ≡ Some p in
       let both : Some p ≡ Some q = sym (subst P same has) ∙ also in
       let one : p ≡ q = cc in
-      apart p q refl refl (ap (λ (p : Place). p.at) one) in
+      apart p q refl refl (ap (λ (p : Point). p.at) one) in
       grind (arith, nat_tests)
 
-  -- so are those of all nodes
-  nodes-fit : (places : List Place) (edges : List Edges) (nodes : List Node) → AllZip (IsEdge step image cells) places edges
-      → AreNodesFor all places edges nodes → IsTrue (list_all (is_fit (length all)) nodes)
+  -- the numbers of some nodes are fit
+  nodes-fit : (points : List Point) (edges : List Edges) (nodes : List Node)
+      → AllZip (IsEdge step image cells) points edges
+      → AreNodesFor all points edges nodes → IsTrue (list_all (is_fit (length all)) nodes)
   nodes-fit [] [] [] each are = refl
   nodes-fit [] [] (node ∷ nodes) each are = absurd are
   nodes-fit [] (edge ∷ edges) nodes each are = absurd each
-  nodes-fit (p ∷ places) [] nodes each are = absurd each
-  nodes-fit (p ∷ places) (edge ∷ edges) [] each are = absurd are
-  nodes-fit (p ∷ places) (edge ∷ edges) (node ∷ nodes) each are =
+  nodes-fit (p ∷ points) [] nodes each are = absurd each
+  nodes-fit (p ∷ points) (edge ∷ edges) [] each are = absurd are
+  nodes-fit (p ∷ points) (edge ∷ edges) (node ∷ nodes) each are =
       let here : IsTrue (is_fit (length all) node) =
       fit-by edge.first edge.second node.first node.second are.0.first are.0.second each.0.first each.0.apart in
-      let rest = nodes-fit places edges nodes each.1 are.1 in
+      let rest = nodes-fit points edges nodes each.1 are.1 in
       both-true (is_fit (length all) node) (list_all (is_fit (length all)) nodes) here rest
 
 -- each node that is there has its successors among the nodes
-module _ (image : Image) (entry : ℕ) (cells : List StackCell) (places : List Place) (numbers : BTreeMap (ℕ × ℕ) ℕ) (edges : List Edges)
-    (at : IsAt image entry cells places numbers edges (length places)) where
-  -- the configurations of all places
+module _ {image : Image} {entry : ℕ} {cells : List StackCell} {points : List Point} {edges : List Edges}
+    (at : IsAt image entry cells points edges (length points)) where
+  -- the configurations of all points
   abbrev all_configurations : List Configuration
-  all_configurations = configurations_at cells places
+  all_configurations = configurations_at cells points
 
-  -- all places are followed
-  front : take (length places) places ≡ places
-  front = take_all (length places) places (omega arith)
+  -- all points are followed
+  front : take (length points) points ≡ points
+  front = take_all (length points) points (omega arith)
 
-  -- no place is left
-  back : drop (length places) places ≡ []
-  back = drop_all (length places) places (omega arith)
+  -- no point is left
+  back : drop (length points) points ≡ []
+  back = drop_all (length points) points (omega arith)
 
-  -- each place has its edges
-  each : AllZip (IsEdge (successors image entry) image cells) places edges
-  each = let P : List Place → Type 0 = λ ps. AllZip (IsEdge (successors image entry) image cells) ps edges in subst P front at.each
+  -- each point has its edges
+  each : AllZip (IsEdge (successors image entry) image cells) points edges
+  each =
+      let P : List Point → Type 0 =
+      λ ps. AllZip (IsEdge (successors image entry) image cells) ps edges in subst P front at.each
 
   -- the last layer is empty
   walked : IsWalked (successors image entry) image entry all_configurations []
   walked =
-      let P : List Place → Type 0 =
-      λ ps. IsWalked (successors image entry) image entry (configurations_at cells ps) (configurations_at cells (drop (length places) places)) in
-      let Q : List Place → Type 0 = λ ps. IsWalked (successors image entry) image entry all_configurations (configurations_at cells ps) in
+      let P : List Point → Type 0 =
+      λ ps. IsWalked (successors image entry) image entry (configurations_at cells ps)
+      (configurations_at cells (drop (length points) points)) in
+      let Q : List Point → Type 0 =
+      λ ps. IsWalked (successors image entry) image entry all_configurations (configurations_at cells ps) in
       subst Q back (subst P front at.walked)
 
   -- the program is accepted
-  pub is_accepted : (configurations : List Configuration) → configurations ≡ configurations_at cells places
-      → (layers : List (List Configuration)) × IsAccepted (successors image entry) image entry layers × (configurations ≡ all_of layers)
-  is_accepted configurations same =
-      (walked.earlier, accepted (successors image entry) image entry all_configurations [] walked refl, same ∙ sym walked.all)
+  pub is_accepted : (configurations : List Configuration) → configurations ≡ configurations_at cells points
+      → (layers : List (List Configuration)) × IsAccepted (successors image entry) image entry layers
+      × (configurations ≡ all_of layers)
+  is_accepted configurations same = (
+    walked.earlier,
+    accepted (successors image entry) image entry all_configurations [] walked refl,
+    same
+        ∙ sym walked.all,
+  )
 
   -- its configurations are in the text
-  pub are_texts : (configurations : List Configuration) → configurations ≡ configurations_at cells places
+  pub are_texts : (configurations : List Configuration) → configurations ≡ configurations_at cells points
       → AllByRecursion (λ c. IsText image c.at) configurations
   are_texts configurations same =
       let P : List Configuration → Type 0 = λ cs. AllByRecursion (λ c. IsText image c.at) cs in
       subst P (sym same)
-      (all-map (λ (c : Configuration). IsText image c.at) (configuration_at cells) places
-      (all-weaker (IsPlace image cells) (λ p. IsText image p.at) (λ p is. is.text) places at.are_places))
+      (all-map (λ (c : Configuration). IsText image c.at) (configuration_at cells) points
+      (all-weaker (IsPoint image cells) (λ p. IsText image p.at) (λ p is. is.text) points at.are_points))
 
-  -- there are edges for each place
-  pub edges_long : length edges ≡ length places
-  edges_long = sym (zip-length (IsEdge (successors image entry) image cells) places edges each)
+  -- there are edges for each point
+  pub edges_long : length edges ≡ length points
+  edges_long = sym (zip-length (IsEdge (successors image entry) image cells) points edges each)
 
-  -- the edges lead to places that are there
-  pub edges_among : AreAmong places (flat_map places_of edges)
-  edges_among = all-from_each (Contains places) (flat_map places_of edges) (λ p has.
-      let q = edge-from (successors image entry) image cells places edges p each has in
+  -- the edges lead to points that are there
+  pub edges_among : AreAmong points (flat_map points_of edges)
+  edges_among = all-from_each (Contains points) (flat_map points_of edges) (λ p has.
+      let q = edge-from (successors image entry) image cells points edges p each has in
       let P : List Configuration → Type 0 = λ cs. Contains cs (configuration_at cells p) in
       let closed = walked.searched.closed (configuration_at cells q.0) (configuration_at cells p)
-      (has-map (configuration_at cells) places q.0 q.1) q.2 in
-      let r = from-map (configuration_at cells) places (configuration_at cells p) (subst P (append-nil all_configurations) closed) in
-      let is = each-has (IsPlace image cells) (flat_map places_of edges) (edges-places (successors image entry) image cells places edges each) p has in
-      let known = each-has (IsPlace image cells) places at.are_places r.0 r.1 in
-      let one : r.0 ≡ p = same_place cells r.0 p at.are_cells known.known is.known r.2 in
-      let Q : Place → Type 0 = λ p. Contains places p in
+      (has-map (configuration_at cells) points q.0 q.1) q.2 in
+      let r =
+      from-map (configuration_at cells) points (configuration_at cells p)
+      (subst P (append-nil all_configurations) closed) in
+      let is =
+      each-has (IsPoint image cells) (flat_map points_of edges)
+      (edges-points (successors image entry) image cells points edges each) p has in
+      let known = each-has (IsPoint image cells) points at.are_points r.0 r.1 in
+      let one : r.0 ≡ p = same_point cells r.0 p at.are_cells known.known is.known r.2 in
+      let Q : Point → Type 0 = λ p. Contains points p in
       subst Q one r.1)
 
-  -- no two configurations are equal
-  configurations_apart : (n m : ℕ) → n < length all_configurations → m < length all_configurations
-      → numbered all_configurations n ≡ numbered all_configurations m → n ≡ m
-  configurations_apart n m first second same =
-      let long : length all_configurations ≡ length places = length-map places (configuration_at cells) in
-      let p = found-inside places n (omega (arith, long)) in
-      let q = found-inside places m (omega (arith, long)) in
-      let are = sym (numbered-place cells places n p.0 p.1) ∙ same ∙ numbered-place cells places m q.0 q.1 in
-      let first_is = each-has (IsPlace image cells) places at.are_places p.0 (listed-at places n p.0 p.1) in
-      let second_is = each-has (IsPlace image cells) places at.are_places q.0 (listed-at places m q.0 q.1) in
-      let one : p.0 ≡ q.0 = same_place cells p.0 q.0 at.are_cells first_is.known second_is.known are in
-      let P : Place → Type 0 = λ p. slice_get places n ≡ Some p in
-      let number : Some n ≡ Some m =
-      sym (at.are_numbers.found n q.0 (subst P one p.1)) ∙ at.are_numbers.found m q.0 q.1 in
-      cc
+  module _ (apart : AreApart points) where
+    -- no two configurations are equal
+    configurations_apart : (n m : ℕ) → n < length all_configurations → m < length all_configurations
+        → numbered all_configurations n ≡ numbered all_configurations m → n ≡ m
+    configurations_apart n m first second same =
+        let long : length all_configurations ≡ length points = length-map points (configuration_at cells) in
+        let p = found-inside points n (omega (arith, long)) in
+        let q = found-inside points m (omega (arith, long)) in
+        let are = sym (numbered-point cells points n p.0 p.1) ∙ same ∙ numbered-point cells points m q.0 q.1 in
+        let first_is = each-has (IsPoint image cells) points at.are_points p.0 (listed-at points n p.0 p.1) in
+        let second_is = each-has (IsPoint image cells) points at.are_points q.0 (listed-at points m q.0 q.1) in
+        let one : p.0 ≡ q.0 = same_point cells p.0 q.0 at.are_cells first_is.known second_is.known are in
+        let P : Point → Type 0 = λ p. slice_get points n ≡ Some p in
+        apart n m q.0 (subst P one p.1) q.1
 
-  module _ (nodes : List Node) (are : AreNodesFor places places edges nodes) where
-    -- the nodes are those of all configurations
-    nodes_of_all : AllZip (IsNodeOf (successors image entry) all_configurations) all_configurations nodes
-    nodes_of_all = nodes-are (successors image entry) image cells places places edges nodes each are
+    module _ (nodes : List Node) (are : AreNodesFor points points edges nodes) where
+      -- the nodes are those of all configurations
+      nodes_of_all : AllZip (IsNodeOf (successors image entry) all_configurations) all_configurations nodes
+      nodes_of_all = nodes-are (successors image entry) image cells points points edges nodes each are
 
-    -- there is a node for each place
-    pub nodes_long : length nodes ≡ length places
-    nodes_long =
-        sym (zip-length (IsNodeOf (successors image entry) all_configurations) all_configurations nodes nodes_of_all)
-        ∙ length-map places (configuration_at cells)
+      -- there is a node for each point
+      pub nodes_long : length nodes ≡ length points
+      nodes_long =
+          sym (zip-length (IsNodeOf (successors image entry) all_configurations) all_configurations nodes nodes_of_all)
+          ∙ length-map points (configuration_at cells)
 
-    -- all nodes are fit
-    all_fit : IsTrue (list_all (is_fit (length nodes)) nodes)
-    all_fit =
-        let P : ℕ → Type 0 = λ count. IsTrue (list_all (is_fit count) nodes) in
-        subst P (sym nodes_long) (nodes-fit (successors image entry) image cells places places edges nodes each are)
+      -- all nodes are fit
+      all_fit : IsTrue (list_all (is_fit (length nodes)) nodes)
+      all_fit =
+          let P : ℕ → Type 0 = λ count. IsTrue (list_all (is_fit count) nodes) in
+          subst P (sym nodes_long) (nodes-fit (successors image entry) image cells points points edges nodes each are)
 
-    -- a successor of a configuration is the number of a successor of its node
-    back_to : (n m : ℕ) → n < length nodes → m < length nodes
-        → IsSuccessor (successors image entry) (numbered all_configurations n) (numbered all_configurations m) → IsSuccessor (graph_step nodes) n m
-    back_to n m first second follows =
-        let node = found-inside nodes n first in
-        let long : length all_configurations ≡ length places = length-map places (configuration_at cells) in
-        let P : Node → Type 0 = λ node. IsNodeOf (successors image entry) all_configurations (numbered all_configurations n) node in
-        let is = subst P (get_or_from_slice_get nodes n node.0 node.0 node.1)
-        (zip-at (IsNodeOf (successors image entry) all_configurations) all_configurations nodes n (start_of 0) node.0 nodes_of_all
-        (omega (arith, long, nodes_long, first))) in
-        let Q : Successors → Type 0 = λ r. IsOkAnd r (λ s. Contains s (numbered all_configurations m)) in
-        let k = from-map (numbered all_configurations) (links node.0.first node.0.second) (numbered all_configurations m) (subst Q is.goes follows) in
-        let R : Option Node → Type 0 = λ o. IsSuccessorBy o k.0 in
-        let to : IsSuccessor (graph_step nodes) n k.0 = subst R (sym node.1) k.1 in
-        let leads = node-from_successor nodes n k.0 to in
-        let below = below-from_fit (length nodes) k.0 leads.0 (fit_at nodes (length nodes) n leads.0 all_fit leads.1) leads.2 in
-        let one : k.0 ≡ m =
-        configurations_apart k.0 m (omega (arith, long, nodes_long, below)) (omega (arith, long, nodes_long, second)) k.2 in
-        let S : ℕ → Type 0 = λ m. IsSuccessor (graph_step nodes) n m in
-        subst S one to
+      -- a successor of a configuration is the number of a successor of its node
+      back_to : (n m : ℕ) → n < length nodes → m < length nodes
+          → IsSuccessor (successors image entry) (numbered all_configurations n) (numbered all_configurations m)
+          → IsSuccessor (graph_step nodes) n m
+      back_to n m first second follows =
+          let node = found-inside nodes n first in
+          let long : length all_configurations ≡ length points = length-map points (configuration_at cells) in
+          let P : Node → Type 0 =
+          λ node. IsNodeOf (successors image entry) all_configurations (numbered all_configurations n) node in
+          let is = subst P (get_or_from_slice_get nodes n node.0 node.0 node.1)
+          (zip-at (IsNodeOf (successors image entry) all_configurations) all_configurations nodes n (start_of 0) node.0
+          nodes_of_all
+          (omega (arith, long, nodes_long, first))) in
+          let Q : Successors → Type 0 = λ r. IsOkAnd r (λ s. Contains s (numbered all_configurations m)) in
+          let k =
+          from-map (numbered all_configurations) (links node.0.first node.0.second) (numbered all_configurations m)
+          (subst Q is.goes follows) in
+          let R : Option Node → Type 0 = λ o. IsSuccessorBy o k.0 in
+          let to : IsSuccessor (graph_step nodes) n k.0 = subst R (sym node.1) k.1 in
+          let leads = node-from_successor nodes n k.0 to in
+          let below =
+          below-from_fit (length nodes) k.0 leads.0 (fit_at nodes (length nodes) n leads.0 all_fit leads.1) leads.2 in
+          let one : k.0 ≡ m =
+          configurations_apart k.0 m (omega (arith, long, nodes_long, below)) (omega (arith, long, nodes_long, second))
+          k.2 in
+          let S : ℕ → Type 0 = λ m. IsSuccessor (graph_step nodes) n m in
+          subst S one to
 
-    -- the nodes are a graph
-    pub is_graph : IsGraph nodes
-    is_graph =
-        let long : length all_configurations ≡ length places = length-map places (configuration_at cells) in
-        let joined : length (all_configurations ++ []) ≡ length nodes = ap length (append-nil all_configurations) ∙ long ∙ sym nodes_long in
-        record {
-          some = omega (arith, walked.some, joined);
-          few = omega (arith, walked.few, joined);
-          fit = all_fit;
-          reached = λ m one below.
-              let from = walked.follow_smaller m one (omega (arith, below, joined)) in
-              let P : List Configuration → Type 0 =
-              λ cs. IsSuccessor (successors image entry) (numbered cs from.0) (numbered cs m) in
-              (from.0, from.1, back_to from.0 m (omega (arith, from.1, below)) below (subst P (append-nil all_configurations) from.2));
-        }
+      -- the nodes are a graph
+      pub is_graph : IsGraph nodes
+      is_graph =
+          let long : length all_configurations ≡ length points = length-map points (configuration_at cells) in
+          let joined : length (all_configurations ++ []) ≡ length nodes =
+          ap length (append-nil all_configurations) ∙ long ∙ sym nodes_long in
+          record {
+            some = omega (arith, walked.some, joined);
+            few = omega (arith, walked.few, joined);
+            fit = all_fit;
+            reached = λ m one below.
+                let from = walked.follow_smaller m one (omega (arith, below, joined)) in
+                let P : List Configuration → Type 0 =
+                λ cs. IsSuccessor (successors image entry) (numbered cs from.0) (numbered cs m) in (
+                  from.0,
+                  from.1,
+                  back_to from.0 m (omega (arith, from.1, below)) below
+                      (subst P (append-nil all_configurations) from.2),
+                );
+          }
 
-    -- and the graph is that of all configurations
-    graph_of_all : IsGraphOf (successors image entry) entry all_configurations nodes
-    graph_of_all = record {
-      begins =
-          ap (λ (cs : List Configuration). numbered cs 0) (sym (append-nil all_configurations)) ∙ walked.begins;
-      each = nodes_of_all;
-      graph = is_graph;
-      apart = configurations_apart;
-    }
+      -- the nodes are the graph of all configurations
+      graph_of_all : IsGraphOf (successors image entry) entry all_configurations nodes
+      graph_of_all = record {
+        begins =
+            ap (λ (cs : List Configuration). numbered cs 0) (sym (append-nil all_configurations)) ∙ walked.begins;
+        each = nodes_of_all;
+        graph = is_graph;
+        apart = configurations_apart;
+      }
 
-    -- the same, of what the calls have made
-    pub is_graph_of : (configurations : List Configuration) (graph : List Node) → configurations ≡ configurations_at cells places → graph ≡ nodes
-        → IsGraphOf (successors image entry) entry configurations graph
-    is_graph_of configurations graph same same_nodes =
-        let P : List Configuration → Type 0 = λ cs. IsGraphOf (successors image entry) entry cs graph in
-        let Q : List Node → Type 0 = λ nodes. IsGraphOf (successors image entry) entry all_configurations nodes in
-        subst P (sym same) (subst Q (sym same_nodes) graph_of_all)
+      -- the graph that the calls have made is that of the configurations
+      pub is_graph_of : (configurations : List Configuration) (graph : List Node)
+          → configurations ≡ configurations_at cells points → graph ≡ nodes
+          → IsGraphOf (successors image entry) entry configurations graph
+      is_graph_of configurations graph same same_nodes =
+          let P : List Configuration → Type 0 = λ cs. IsGraphOf (successors image entry) entry cs graph in
+          let Q : List Node → Type 0 = λ nodes. IsGraphOf (successors image entry) entry all_configurations nodes in
+          subst P (sym same) (subst Q (sym same_nodes) graph_of_all)
 
-    -- and the places and nodes belong together
-    pub are_expanded : (graph : List Node) → graph ≡ nodes → AreExpanded cells places graph
-    are_expanded graph same =
-        let P : List Node → Type 0 = IsGraph in
-        record {
-          known = all-weaker (IsPlace image cells) (λ p. p.stack ≤ length cells) (λ p is. is.known) places at.are_places;
-          are_cells = at.are_cells;
-          graph = subst P (sym same) is_graph;
-          as_many = ap length same ∙ nodes_long;
-        }
+      -- the points and nodes belong together
+      pub are_expanded : (graph : List Node) → graph ≡ nodes → AreExpanded cells points graph
+      are_expanded graph same =
+          let P : List Node → Type 0 = IsGraph in
+          record {
+            known =
+                all-weaker (IsPoint image cells) (λ p. p.stack ≤ length cells) (λ p is. is.known) points at.are_points;
+            are_cells = at.are_cells;
+            graph = subst P (sym same) is_graph;
+            as_many = ap length same ∙ nodes_long;
+          }
 
 -- there is a value, where a property of none can't hold
 pub some-from : {X A : Type 0} (o : Option X) → IfNone o (A → ⊥) → A → IsSome o

@@ -3,7 +3,6 @@ use Rattle.std.proofs.Common.{◌≡◌, ℕ, ◌+◌, ◌<◌, ◌≤◌, inl, 
 use Rattle.std.specs.Prelude.{flat_map}
 use Rattle.std.specs.List.{AllByRecursion, AllZip}
 use Rattle.std.specs.List.Sorted.{IsPermutation, IsSorted}
-use Rattle.std.specs.BTreeMap.{BTreeMap}
 use Rattle.std.proofs.lemmas.List.{map-append, length-map, length-take-le, take_at, drop_at}
 use Rattle.elf_spec.specs.Image.{Image}
 use Rattle.flow_spec.specs.Acceptance.{Step, IsFaultless, IsRefused, fetch_limit}
@@ -14,19 +13,20 @@ use Rattle.flow_spec.specs.declared.fault.FlowFault.{FlowFault}
 use Rattle.flow_spec.specs.declared.fault.FlowFault.TheVariants.{TooManyFetches}
 use Rattle.frame_stacks.specs.declared.stacks.StackCell.{StackCell}
 use Rattle.frame_stacks.specs.Stacks.{AreCells}
-use Rattle.call_expand.specs.declared.place.Place.{Place}
-use Rattle.call_expand.specs.declared.place.Edges.{Edges}
-use Rattle.call_expand.specs.Place.{configuration_at, configurations_at, place_cmp, IsPlace, ArePlaces, GoesOn, places_of, IsEdge, FailsAt, AreAllFollowed}
-use Rattle.call_expand.specs.Numbers.{AreNumbers, AreNew, AreNumbered}
+use Rattle.call_expand.specs.declared.point.Point.{Point}
+use Rattle.call_expand.specs.declared.point.Edges.{Edges}
+use Rattle.call_expand.specs.Point.{configuration_at, configurations_at, point_cmp, IsPoint, ArePoints, GoesOn, points_of, IsEdge, FailsAt, AreAllFollowed}
+use Rattle.call_expand.specs.Numbers.{AreNew, AreNumbered}
 use Rattle.call_expand.specs.Search.{IsWalked, IsAt, AreNext}
 use Rattle.call_expand.proofs.Zipped.{all-weaker, all-append, all-front, all-back, zip-length, zip-append, zip-weaker}
 use Rattle.call_expand.proofs.Walked.{faulty, too_many, walked_more}
-use Rattle.call_expand.proofs.Edges.{same-place, same-configurations, same-edge, goes_on-refl, edges-faultless}
+use Rattle.call_expand.proofs.Edges.{same-point, same-configurations, same-edge, goes_on-refl, edges-faultless}
 use Rattle.call_expand.proofs.Layer.{are_next, are_new}
 
 -- what holds of the layers stays, where there are more cells
-walked-same : (step : Step) (image : Image) (entry : ℕ) (before after : List StackCell) (first last : List Place) → GoesOn before after
-    → ArePlaces image before first → ArePlaces image before last
+walked-same : (step : Step) (image : Image) (entry : ℕ) (before after : List StackCell) (first last : List Point)
+    → GoesOn before after
+    → ArePoints image before first → ArePoints image before last
     → IsWalked step image entry (configurations_at before first) (configurations_at before last)
     → IsWalked step image entry (configurations_at after first) (configurations_at after last)
 walked-same step image entry before after first last goes_on are_first are_last walked =
@@ -35,179 +35,212 @@ walked-same step image entry before after first last goes_on are_first are_last 
     subst Q (sym (same-configurations image before after last goes_on are_last))
     (subst P (sym (same-configurations image before after first goes_on are_first)) walked)
 
-module _ (image : Image) (entry : ℕ) (cells : List StackCell) (places : List Place) (numbers : BTreeMap (ℕ × ℕ) ℕ) (edges : List Edges) (start : ℕ)
-    (at : IsAt image entry cells places numbers edges start) where
-  -- the places before the layer, and those of the layer
-  cut : take start places ++ drop start places ≡ places
-  cut = take-append-drop start places
+module _ {image : Image} {entry : ℕ} {cells : List StackCell} {points : List Point} {edges : List Edges} {start : ℕ}
+    (at : IsAt image entry cells points edges start) where
+  -- the points before the layer, and those of the layer
+  cut : take start points ++ drop start points ≡ points
+  cut = take-append-drop start points
 
-  -- both are places
-  are_first : ArePlaces image cells (take start places)
+  -- the points before the layer, and those of the layer, are points
+  are_first : ArePoints image cells (take start points)
   are_first =
-      let P : List Place → Type 0 = ArePlaces image cells in
-      all-front (IsPlace image cells) (take start places) (drop start places) (subst P (sym cut) at.are_places)
+      let P : List Point → Type 0 = ArePoints image cells in
+      all-front (IsPoint image cells) (take start points) (drop start points) (subst P (sym cut) at.are_points)
 
-  pub are_last : ArePlaces image cells (drop start places)
+  pub are_last : ArePoints image cells (drop start points)
   are_last =
-      let P : List Place → Type 0 = ArePlaces image cells in
-      all-back (IsPlace image cells) (take start places) (drop start places) (subst P (sym cut) at.are_places)
+      let P : List Point → Type 0 = ArePoints image cells in
+      all-back (IsPoint image cells) (take start points) (drop start points) (subst P (sym cut) at.are_points)
 
-  -- there are no more places than the limit
-  pub few-places : length places ≤ fetch_limit
-  few-places =
+  -- there are no more points than the limit
+  pub few-points : length points ≤ fetch_limit
+  few-points =
       omega (
         arith,
         at.walked.few,
-        length-append (configurations_at cells (take start places)) (configurations_at cells (drop start places)),
-        length-map (take start places) (configuration_at cells),
-        length-map (drop start places) (configuration_at cells),
-        length-append (take start places) (drop start places),
+        length-append (configurations_at cells (take start points)) (configurations_at cells (drop start points)),
+        length-map (take start points) (configuration_at cells),
+        length-map (drop start points) (configuration_at cells),
+        length-append (take start points) (drop start points),
         ap length cut,
       )
 
   -- a fault of the layer refuses the program
-  pub refused_here : (fault : FlowFault) → FailsAt (successors image entry) (configurations_at cells (drop start places)) fault
+  pub refused_here : {seen : List Point} → seen ≡ points → (fault : FlowFault)
+      → FailsAt (successors image entry) (configurations_at cells (drop start seen)) fault
       → IsRefused (successors image entry) image entry fault
-  refused_here fault fails =
-      inr (inl (faulty (successors image entry) image entry (configurations_at cells (take start places))
-      (configurations_at cells (drop start places)) at.walked fault fails))
+  refused_here same fault fails =
+      let P : List Point → Type 0 =
+      λ ps. FailsAt (successors image entry) (configurations_at cells (drop start ps)) fault in
+      inr (inl (faulty (successors image entry) image entry (configurations_at cells (take start points))
+      (configurations_at cells (drop start points)) at.walked fault (subst P same fails)))
 
-  module _ (after : List StackCell) (more : List Edges) (found new : List Place) (goes_on : GoesOn cells after) (are_cells : AreCells after)
-      (each : AllZip (IsEdge (successors image entry) image after) (drop start places) more)
-      (same : IsPermutation (flat_map places_of more) found) (sorted : IsSorted (place_cmp after) found) (are : AreNew places found new) where
+  module _ (after : List StackCell) (more : List Edges) (found new : List Point) (goes_on : GoesOn cells after)
+      (are_cells : AreCells after)
+      (each : AllZip (IsEdge (successors image entry) image after) (drop start points) more)
+      (same : IsPermutation (flat_map points_of more) found) (sorted : IsSorted (point_cmp after) found)
+      (are : AreNew points found new) where
     -- with more cells they are so still
-    still_first : ArePlaces image after (take start places)
-    still_first = all-weaker (IsPlace image cells) (IsPlace image after) (same-place image cells after goes_on) (take start places) are_first
+    still_first : ArePoints image after (take start points)
+    still_first =
+        all-weaker (IsPoint image cells) (IsPoint image after) (same-point image cells after goes_on)
+        (take start points) are_first
 
-    still_last : ArePlaces image after (drop start places)
-    still_last = all-weaker (IsPlace image cells) (IsPlace image after) (same-place image cells after goes_on) (drop start places) are_last
+    still_last : ArePoints image after (drop start points)
+    still_last =
+        all-weaker (IsPoint image cells) (IsPoint image after) (same-point image cells after goes_on)
+        (drop start points) are_last
 
     -- the new ones are new beside both
-    are_cut : AreNew (take start places ++ drop start places) found new
-    are_cut = let P : List Place → Type 0 = λ seen. AreNew seen found new in subst P (sym cut) are
+    are_cut : AreNew (take start points ++ drop start points) found new
+    are_cut = let P : List Point → Type 0 = λ seen. AreNew seen found new in subst P (sym cut) are
 
-    -- the layers are those of the places with more cells
-    walked : IsWalked (successors image entry) image entry (configurations_at after (take start places)) (configurations_at after (drop start places))
-    walked = walked-same (successors image entry) image entry cells after (take start places) (drop start places) goes_on are_first are_last at.walked
+    -- the layers are those of the points with more cells
+    walked : IsWalked (successors image entry) image entry (configurations_at after (take start points))
+        (configurations_at after (drop start points))
+    walked =
+        walked-same (successors image entry) image entry cells after (take start points) (drop start points) goes_on
+        are_first are_last at.walked
 
-    -- no place of the layer has a fault
-    faultless : AllByRecursion (IsFaultless (successors image entry)) (configurations_at after (drop start places))
-    faultless = edges-faultless (successors image entry) image after after (goes_on-refl after) (drop start places) more still_last each
+    -- no point of the layer has a fault
+    faultless : AllByRecursion (IsFaultless (successors image entry)) (configurations_at after (drop start points))
+    faultless =
+        edges-faultless (successors image entry) image after after (goes_on-refl after) (drop start points) more
+        still_last each
 
     -- the new ones are the next layer
-    next : AreNext (successors image entry) configuration_cmp (configurations_at after (take start places))
-        (configurations_at after (drop start places)) (configurations_at after new)
+    next : AreNext (successors image entry) configuration_cmp (configurations_at after (take start points))
+        (configurations_at after (drop start points)) (configurations_at after new)
     next =
-        are_next (successors image entry) image after (take start places) (drop start places) more found new are_cells still_first still_last each same
+        are_next (successors image entry) image after (take start points) (drop start points) more found new are_cells
+        still_first still_last each same
         sorted are_cut
 
-    -- the configurations of all places so far
-    whole : configurations_at after (take start places) ++ configurations_at after (drop start places) ≡ configurations_at after places
+    -- the configurations of all points so far
+    whole : configurations_at after (take start points) ++ configurations_at after (drop start points)
+        ≡ configurations_at after points
     whole =
-        sym (map-append (configuration_at after) (take start places) (drop start places)) ∙ ap (configurations_at after) cut
+        sym (map-append (configuration_at after) (take start points) (drop start points))
+        ∙ ap (configurations_at after) cut
 
-    -- there is a configuration for each place
-    as_many : length ((configurations_at after (take start places) ++ configurations_at after (drop start places)) ++ configurations_at after new)
-        ≡ length (places ++ new)
+    -- there is a configuration for each point
+    as_many : length ((configurations_at after (take start points) ++ configurations_at after (drop start points))
+        ++ configurations_at after new) ≡ length (points ++ new)
     as_many =
         ap (λ cs. length (cs ++ configurations_at after new)) whole
-        ∙ ap length (sym (map-append (configuration_at after) places new))
-        ∙ length-map (places ++ new) (configuration_at after)
+        ∙ ap length (sym (map-append (configuration_at after) points new))
+        ∙ length-map (points ++ new) (configuration_at after)
 
     -- the next layer passes the limit
-    pub passes_limit : fetch_limit < length (places ++ new) → IsRefused (successors image entry) image entry (TooManyFetches fetch_limit)
+    pub passes_limit : fetch_limit < length (points ++ new)
+        → IsRefused (successors image entry) image entry (TooManyFetches fetch_limit)
     passes_limit many =
-        inr (inr (too_many (successors image entry) image entry (configurations_at after (take start places))
-        (configurations_at after (drop start places)) walked (configurations_at after new) faultless next (omega (arith, many, as_many))))
+        inr (inr (too_many (successors image entry) image entry (configurations_at after (take start points))
+        (configurations_at after (drop start points)) walked (configurations_at after new) faultless next
+        (omega (arith, many, as_many))))
 
     -- else the search is at it
-    pub at_next : (after_numbers : BTreeMap (ℕ × ℕ) ℕ) → AreNumbers (places ++ new) after_numbers
-        → length after ≤ length cells + length (drop start places) → length (places ++ new) ≤ fetch_limit
-        → IsAt image entry after (places ++ new) after_numbers (edges ++ more) (length places)
-    at_next after_numbers are_numbers room few =
-        let Each : List Place → Type 0 = λ ps. AllZip (IsEdge (successors image entry) image after) ps (edges ++ more) in
-        let front : take (length places) (places ++ new) ≡ places = take_at places new (length places) refl in
-        let back : drop (length places) (places ++ new) ≡ new = drop_at places new (length places) refl in
-        let Places : List Place → Type 0 = ArePlaces image after in
-        let Before : List Configuration → Type 0 = λ cs. IsWalked (successors image entry) image entry cs (configurations_at after new) in
-        let Last : List Place → Type 0 =
-        λ ps. IsWalked (successors image entry) image entry (configurations_at after (take (length places) (places ++ new))) (configurations_at after ps) in
+    pub at_next : length after ≤ length cells + length (drop start points) → length (points ++ new) ≤ fetch_limit
+        → IsAt image entry after (points ++ new) (edges ++ more) (length points)
+    at_next room few =
+        let Each : List Point → Type 0 =
+        λ ps. AllZip (IsEdge (successors image entry) image after) ps (edges ++ more) in
+        let front : take (length points) (points ++ new) ≡ points = take_at points new (length points) refl in
+        let back : drop (length points) (points ++ new) ≡ new = drop_at points new (length points) refl in
+        let Points : List Point → Type 0 = ArePoints image after in
+        let Before : List Configuration → Type 0 =
+        λ cs. IsWalked (successors image entry) image entry cs (configurations_at after new) in
+        let Last : List Point → Type 0 =
+        λ ps. IsWalked (successors image entry) image entry
+        (configurations_at after (take (length points) (points ++ new))) (configurations_at after ps) in
         record {
           are_cells = are_cells;
-          are_places =
-              all-append (IsPlace image after) places new
-              (all-weaker (IsPlace image cells) (IsPlace image after) (same-place image cells after goes_on) places at.are_places)
-              (are_new (successors image entry) image after (take start places) (drop start places) more found new are_cells still_first still_last
+          are_points =
+              all-append (IsPoint image after) points new
+              (all-weaker (IsPoint image cells) (IsPoint image after) (same-point image cells after goes_on) points
+              at.are_points)
+              (are_new (successors image entry) image after (take start points) (drop start points) more found new
+              are_cells still_first still_last
               each same sorted are_cut);
-          are_numbers = are_numbers;
-          within = omega (arith, length-append places new);
+          within = omega (arith, length-append points new);
           each =
               subst Each (cut ∙ sym front)
-              (zip-append (IsEdge (successors image entry) image after) (take start places) (drop start places) edges more
-              (zip-weaker (IsPlace image cells) (IsEdge (successors image entry) image cells) (IsEdge (successors image entry) image after)
-              (same-edge (successors image entry) image cells after goes_on) (take start places) edges are_first at.each)
+              (zip-append (IsEdge (successors image entry) image after) (take start points) (drop start points) edges
+              more
+              (zip-weaker (IsPoint image cells) (IsEdge (successors image entry) image cells)
+              (IsEdge (successors image entry) image after)
+              (same-edge (successors image entry) image cells after goes_on) (take start points) edges are_first
+              at.each)
               each);
-          room = omega (arith, room, at.room, at.within, length-drop start places);
+          room = omega (arith, room, at.room, at.within, length-drop start points);
           walked =
               subst Last (sym back)
               (subst Before (whole ∙ ap (configurations_at after) (sym front))
-              (walked_more (successors image entry) image entry (configurations_at after (take start places))
-              (configurations_at after (drop start places)) walked (configurations_at after new) faultless next (omega (arith, few, as_many))));
+              (walked_more (successors image entry) image entry (configurations_at after (take start points))
+              (configurations_at after (drop start points)) walked (configurations_at after new) faultless next
+              (omega (arith, few, as_many))));
         }
 
-  -- the layer is followed, from places that are those so far
-  module _ (seen : List Place) (seen_is : seen ≡ places) (after : List StackCell) (after_edges : List Edges)
-      (seen_followed : AreAllFollowed (successors image entry) image cells after (drop start seen) edges after_edges) where
-    -- the same, of the places so far
-    followed : AreAllFollowed (successors image entry) image cells after (drop start places) edges after_edges
-    followed =
-        let P : List Place → Type 0 = λ ps. AreAllFollowed (successors image entry) image cells after (drop start ps) edges after_edges in
-        subst P seen_is seen_followed
+  -- the layer is followed, from points that are those so far
+  module _ {seen : List Point} (seen_is : seen ≡ points) {after : List StackCell} {after_edges : List Edges}
+      (seen_followed : AreAllFollowed (successors image entry) image cells after (drop start seen) edges after_edges)
+    where
+      -- the layer of the points so far is followed
+      followed : AreAllFollowed (successors image entry) image cells after (drop start points) edges after_edges
+      followed =
+          let P : List Point → Type 0 =
+          λ ps. AreAllFollowed (successors image entry) image cells after (drop start ps) edges after_edges in
+          subst P seen_is seen_followed
 
-    -- there were edges for the places before the layer
-    edges-long : length edges ≡ start
-    edges-long =
-        sym (zip-length (IsEdge (successors image entry) image cells) (take start places) edges at.each) ∙ length-take-le start places at.within
+      -- there were edges for the points before the layer
+      edges-long : length edges ≡ start
+      edges-long =
+          sym (zip-length (IsEdge (successors image entry) image cells) (take start points) edges at.each)
+          ∙ length-take-le start points at.within
 
-    -- there are edges for each place so far
-    pub all-edges : length after_edges ≡ length places
-    all-edges =
-        omega (
-          arith,
-          ap length followed.is,
-          length-append edges followed.more,
-          edges-long,
-          sym (zip-length (IsEdge (successors image entry) image after) (drop start places) followed.more followed.each),
-          length-drop start places,
-          at.within,
-        )
+      -- there are edges for each point so far
+      pub all-edges : length after_edges ≡ length points
+      all-edges =
+          omega (
+            arith,
+            ap length followed.is,
+            length-append edges followed.more,
+            edges-long,
+            sym (zip-length (IsEdge (successors image entry) image after) (drop start points) followed.more
+                followed.each),
+            length-drop start points,
+            at.within,
+          )
 
-    -- and the next one is numbered, from edges that are those
-    module _ (seen_edges : List Edges) (seen_edges_are : seen_edges ≡ after_edges) (after_places : List Place) (are_cells : AreCells after)
-        (numbered : AreNumbered after (drop start seen_edges) places after_places) where
-      -- the edges of the layer
-      new_edges : drop start seen_edges ≡ followed.more
-      new_edges = ap (drop start) (seen_edges_are ∙ followed.is) ∙ drop_at edges followed.more start edges-long
+      -- the next layer is numbered, from edges that are those
+      module _ {seen_edges : List Edges} (seen_edges_are : seen_edges ≡ after_edges) {after_points : List Point}
+          (are_cells : AreCells after) (numbered : AreNumbered after (drop start seen_edges) points after_points) where
+        -- the edges of the layer
+        new_edges : drop start seen_edges ≡ followed.more
+        new_edges = ap (drop start) (seen_edges_are ∙ followed.is) ∙ drop_at edges followed.more start edges-long
 
-      -- what is found is where they lead to
-      same_more : IsPermutation (flat_map places_of followed.more) numbered.found
-      same_more =
-          let P : List Edges → Type 0 = λ es. IsPermutation (flat_map places_of es) numbered.found in subst P new_edges numbered.same
+        -- what is found is where they lead to
+        same_more : IsPermutation (flat_map points_of followed.more) numbered.found
+        same_more =
+            let P : List Edges → Type 0 =
+            λ es. IsPermutation (flat_map points_of es) numbered.found in subst P new_edges numbered.same
 
-      -- with the next layer the limit is passed
-      pub layer_passes_limit : fetch_limit < length after_places → IsRefused (successors image entry) image entry (TooManyFetches fetch_limit)
-      layer_passes_limit many =
-          passes_limit after followed.more numbered.found numbered.new followed.goes_on are_cells followed.each same_more numbered.sorted numbered.are
-          (omega (arith, many, ap length numbered.is))
+        -- with the next layer the limit is passed
+        pub layer_passes_limit : fetch_limit < length after_points
+            → IsRefused (successors image entry) image entry (TooManyFetches fetch_limit)
+        layer_passes_limit many =
+            passes_limit after followed.more numbered.found numbered.new followed.goes_on are_cells followed.each
+            same_more numbered.sorted numbered.are
+            (omega (arith, many, ap length numbered.is))
 
-      -- or the search is at the next layer
-      pub layer_next : (after_numbers : BTreeMap (ℕ × ℕ) ℕ) → AreNumbers after_places after_numbers → length after_places ≤ fetch_limit
-          → IsAt image entry after after_places after_numbers after_edges (length places)
-      layer_next after_numbers are_numbers few =
-          let P : List Place → Type 0 = λ ps. AreNumbers ps after_numbers in
-          let Q : List Place → Type 0 = λ ps. IsAt image entry after ps after_numbers after_edges (length places) in
-          let R : List Edges → Type 0 = λ es. IsAt image entry after (places ++ numbered.new) after_numbers es (length places) in
-          subst Q (sym numbered.is)
-          (subst R (sym followed.is)
-          (at_next after followed.more numbered.found numbered.new followed.goes_on are_cells followed.each same_more numbered.sorted numbered.are
-          after_numbers (subst P numbered.is are_numbers) followed.few (omega (arith, few, ap length numbered.is))))
+        -- within the limit the search is at the next layer
+        pub layer_next : length after_points ≤ fetch_limit
+            → IsAt image entry after after_points after_edges (length points)
+        layer_next few =
+            let Q : List Point → Type 0 = λ ps. IsAt image entry after ps after_edges (length points) in
+            let R : List Edges → Type 0 = λ es. IsAt image entry after (points ++ numbered.new) es (length points) in
+            subst Q (sym numbered.is)
+            (subst R (sym followed.is)
+            (at_next after followed.more numbered.found numbered.new followed.goes_on are_cells followed.each same_more
+            numbered.sorted
+            numbered.are followed.few (omega (arith, few, ap length numbered.is))))

@@ -1,4 +1,4 @@
--- One layer of the search: the places that are numbered next are the next layer.
+-- One layer of the search: the points that are numbered next are the next layer.
 use Rattle.std.proofs.Common.{◌≡◌, ⊎_elim, List, [], ◌∷◌, ◌++◌, map, sym, ap, ◌∙◌, subst}
 use Rattle.std.specs.Prelude.{Contains, Ok, flat_map}
 use Rattle.std.specs.Result.{IsOkAnd}
@@ -18,121 +18,138 @@ use Rattle.flow_spec.specs.Order.{configuration_cmp}
 use Rattle.flow_spec.specs.Successors.{Successors}
 use Rattle.frame_stacks.specs.declared.stacks.StackCell.{StackCell}
 use Rattle.frame_stacks.specs.Stacks.{AreCells}
-use Rattle.call_expand.specs.declared.place.Place.{Place}
-use Rattle.call_expand.specs.declared.place.Edges.{Edges}
-use Rattle.call_expand.specs.Place.{configuration_at, configurations_at, place_cmp, IsPlace, ArePlaces, places_of, IsEdge}
+use Rattle.call_expand.specs.declared.point.Point.{Point}
+use Rattle.call_expand.specs.declared.point.Edges.{Edges}
+use Rattle.call_expand.specs.Point.{configuration_at, configurations_at, point_cmp, IsPoint, ArePoints, points_of, IsEdge}
 use Rattle.call_expand.specs.Numbers.{AreNew}
 use Rattle.call_expand.specs.Search.{AreNext}
 use Rattle.call_expand.proofs.Zipped.{all-append, all-map}
 use Rattle.flow_spec.proofs.Decided.{same-from_equal}
-use Rattle.call_expand.proofs.Ordered.{place_total, same_place}
+use Rattle.call_expand.proofs.Ordered.{point_total, same_point}
 use Rattle.call_expand.proofs.New.{new-listed, new-unseen, new-all, new-sorted}
 
 -- a list in order by what a function gives is so given in order
-sorted-map : {X Y : Type 0} (order : Y → Y → Ordering) (f : X → Y) (xs : List X) → IsStrictlySortedBy (λ a b. order (f a) (f b)) xs
+sorted-map : {X Y : Type 0} (order : Y → Y → Ordering) (f : X → Y) (xs : List X)
+    → IsStrictlySortedBy (λ a b. order (f a) (f b)) xs
     → IsStrictlySortedBy order (map f xs)
 unfolding IsStrictlySortedBy
 sorted-map order f [] sorted = tt
 sorted-map order f (x ∷ xs) sorted = (all-map (λ y. order (f x) y ≡ Less) f xs sorted.0, sorted-map order f xs sorted.1)
 
 module _ (step : Step) (image : Image) (cells : List StackCell) where
-  -- a place that some edges lead to is a successor of one that they leave
-  pub edge-from : (places : List Place) (edges : List Edges) (p : Place) → AllZip (IsEdge step image cells) places edges
-      → Contains (flat_map places_of edges) p
-      → (q : Place) × Contains places q × IsSuccessor step (configuration_at cells q) (configuration_at cells p)
+  -- a point that some edges lead to is a successor of one that they leave
+  pub edge-from : (points : List Point) (edges : List Edges) (p : Point) → AllZip (IsEdge step image cells) points edges
+      → Contains (flat_map points_of edges) p
+      → (q : Point) × Contains points q × IsSuccessor step (configuration_at cells q) (configuration_at cells p)
   edge-from [] [] p each has = absurd (has-none p has)
   edge-from [] (edge ∷ edges) p each has = absurd each
-  edge-from (q ∷ places) [] p each has = absurd each
-  edge-from (q ∷ places) (edge ∷ edges) p each has =
+  edge-from (q ∷ points) [] p each has = absurd each
+  edge-from (q ∷ points) (edge ∷ edges) p each has =
       ⊎_elim
-      (λ (here : Contains (places_of edge) p).
+      (λ (here : Contains (points_of edge) p).
       let P : Successors → Type 0 = λ r. IsOkAnd r (λ s. Contains s (configuration_at cells p)) in
-      (q, has-first q places, subst P (sym each.0.goes) (has-map (configuration_at cells) (places_of edge) p here)))
-      (λ (later : Contains (flat_map places_of edges) p).
-      let rest = edge-from places edges p each.1 later in (rest.0, has-later q rest.0 places rest.1, rest.2))
-      (Contains-append_cases (places_of edge) (flat_map places_of edges) p has)
+      (q, has-first q points, subst P (sym each.0.goes) (has-map (configuration_at cells) (points_of edge) p here)))
+      (λ (later : Contains (flat_map points_of edges) p).
+      let rest = edge-from points edges p each.1 later in (rest.0, has-later q rest.0 points rest.1, rest.2))
+      (Contains-append_cases (points_of edge) (flat_map points_of edges) p has)
 
-  -- a successor of such a one is a place that they lead to
-  pub edge-to : (places : List Place) (edges : List Edges) (q : Place) (c : Configuration) → AllZip (IsEdge step image cells) places edges
-      → Contains places q → IsSuccessor step (configuration_at cells q) c
-      → (p : Place) × Contains (flat_map places_of edges) p × (configuration_at cells p ≡ c)
+  -- a successor of such a one is a point that they lead to
+  pub edge-to : (points : List Point) (edges : List Edges) (q : Point) (c : Configuration)
+      → AllZip (IsEdge step image cells) points edges
+      → Contains points q → IsSuccessor step (configuration_at cells q) c
+      → (p : Point) × Contains (flat_map points_of edges) p × (configuration_at cells p ≡ c)
   edge-to [] edges q c each has follows = absurd (has-none q has)
-  edge-to (first ∷ places) [] q c each has follows = absurd each
-  edge-to (first ∷ places) (edge ∷ edges) q c each has follows =
+  edge-to (first ∷ points) [] q c each has follows = absurd each
+  edge-to (first ∷ points) (edge ∷ edges) q c each has follows =
       ⊎_elim
       (λ (here : q ≡ first).
       let P : Successors → Type 0 = λ r. IsOkAnd r (λ s. Contains s c) in
-      let Q : Place → Type 0 = λ q. IsSuccessor step (configuration_at cells q) c in
-      let goes : step (configuration_at cells first) ≡ Ok (configurations_at cells (places_of edge)) = each.0.goes in
-      let p = from-map (configuration_at cells) (places_of edge) c (subst P goes (subst Q here follows)) in
-      (p.0, Contains-append_left (places_of edge) (flat_map places_of edges) p.0 p.1, p.2))
-      (λ (later : Contains places q).
-      let rest = edge-to places edges q c each.1 later follows in
-      (rest.0, Contains-append_right (places_of edge) (flat_map places_of edges) rest.0 rest.1, rest.2))
-      (has-cases first q places has)
+      let Q : Point → Type 0 = λ q. IsSuccessor step (configuration_at cells q) c in
+      let goes : step (configuration_at cells first) ≡ Ok (configurations_at cells (points_of edge)) = each.0.goes in
+      let p = from-map (configuration_at cells) (points_of edge) c (subst P goes (subst Q here follows)) in
+      (p.0, Contains-append_left (points_of edge) (flat_map points_of edges) p.0 p.1, p.2))
+      (λ (later : Contains points q).
+      let rest = edge-to points edges q c each.1 later follows in
+      (rest.0, Contains-append_right (points_of edge) (flat_map points_of edges) rest.0 rest.1, rest.2))
+      (has-cases first q points has)
 
-  -- the places that edges lead to are in the text, on stacks that the cells make
-  pub edges-places : (places : List Place) (edges : List Edges) → AllZip (IsEdge step image cells) places edges
-      → ArePlaces image cells (flat_map places_of edges)
-  edges-places [] [] each = tt
-  edges-places [] (edge ∷ edges) each = absurd each
-  edges-places (q ∷ places) [] each = absurd each
-  edges-places (q ∷ places) (edge ∷ edges) each =
-      all-append (IsPlace image cells) (places_of edge) (flat_map places_of edges) each.0.places (edges-places places edges each.1)
+  -- the points that edges lead to are in the text, on stacks that the cells make
+  pub edges-points : (points : List Point) (edges : List Edges) → AllZip (IsEdge step image cells) points edges
+      → ArePoints image cells (flat_map points_of edges)
+  edges-points [] [] each = tt
+  edges-points [] (edge ∷ edges) each = absurd each
+  edges-points (q ∷ points) [] each = absurd each
+  edges-points (q ∷ points) (edge ∷ edges) each =
+      all-append (IsPoint image cells) (points_of edge) (flat_map points_of edges) each.0.points
+      (edges-points points edges each.1)
 
-  module _ (before last : List Place) (more : List Edges) (found new : List Place) (are_cells : AreCells cells)
-      (are_before : ArePlaces image cells before) (are_last : ArePlaces image cells last) (each : AllZip (IsEdge step image cells) last more)
-      (same : IsPermutation (flat_map places_of more) found) (sorted : IsSorted (place_cmp cells) found) (are : AreNew (before ++ last) found new) where
-    -- what is found are places
-    pub are_found : ArePlaces image cells found
-    are_found = all-from_each (IsPlace image cells) found (λ p has.
-        each-has (IsPlace image cells) (flat_map places_of more) (edges-places last more each) p
-        (Contains-permutation found (flat_map places_of more) p (IsPermutation-sym (flat_map places_of more) found same) has))
+  module _ (before last : List Point) (more : List Edges) (found new : List Point) (are_cells : AreCells cells)
+      (are_before : ArePoints image cells before) (are_last : ArePoints image cells last)
+      (each : AllZip (IsEdge step image cells) last more)
+      (same : IsPermutation (flat_map points_of more) found) (sorted : IsSorted (point_cmp cells) found)
+      (are : AreNew (before ++ last) found new) where
+    -- what is found are points
+    pub are_found : ArePoints image cells found
+    are_found = all-from_each (IsPoint image cells) found (λ p has.
+        each-has (IsPoint image cells) (flat_map points_of more) (edges-points last more each) p
+        (Contains-permutation found (flat_map points_of more) p (IsPermutation-sym (flat_map points_of more) found same)
+        has))
 
-    -- so are the new ones
-    pub are_new : ArePlaces image cells new
-    are_new = all-from_each (IsPlace image cells) new (λ p has.
-        each-has (IsPlace image cells) found are_found p (new-listed found (before ++ last) new are p has))
+    -- the new ones are points
+    pub are_new : ArePoints image cells new
+    are_new = all-from_each (IsPoint image cells) new (λ p has.
+        each-has (IsPoint image cells) found are_found p (new-listed found (before ++ last) new are p has))
 
-    -- places of one configuration among these are the same
-    one_place : (a b : Place) → IsPlace image cells a → IsPlace image cells b → configuration_at cells a ≡ configuration_at cells b → a ≡ b
-    one_place a b first second is = same_place cells a b are_cells first.known second.known is
+    -- points of one configuration among these are the same
+    one_point : (a b : Point) → IsPoint image cells a → IsPoint image cells b
+        → configuration_at cells a ≡ configuration_at cells b → a ≡ b
+    one_point a b first second is = same_point cells a b are_cells first.known second.known is
 
-    -- a configuration is that of a place
-    before_last : configurations_at cells (before ++ last) ≡ configurations_at cells before ++ configurations_at cells last
+    -- a configuration is that of a point
+    before_last : configurations_at cells (before ++ last)
+        ≡ configurations_at cells before ++ configurations_at cells last
     before_last = map-append (configuration_at cells) before last
 
-    -- the new places are the next layer
-    pub are_next : AreNext step configuration_cmp (configurations_at cells before) (configurations_at cells last) (configurations_at cells new)
+    -- the new points are the next layer
+    pub are_next : AreNext step configuration_cmp (configurations_at cells before) (configurations_at cells last)
+        (configurations_at cells new)
     are_next = record {
       sorted =
           sorted-map configuration_cmp (configuration_at cells) new
-          (new-sorted (place_cmp cells) (IsPlace image cells) (place_total cells)
-          (λ a b first second tie. one_place a b first second (same-from_equal (configuration_at cells a) (configuration_at cells b) tie)) found
+          (new-sorted (point_cmp cells) (IsPoint image cells) (point_total cells)
+          (λ a b first second tie. one_point a b first second
+          (same-from_equal (configuration_at cells a) (configuration_at cells b) tie)) found
           (before ++ last) new are_found sorted are);
       follow = λ c has.
           let p = from-map (configuration_at cells) new c has in
           let listed = new-listed found (before ++ last) new are p.0 p.1 in
           let q = edge-from last more p.0 each
-          (Contains-permutation found (flat_map places_of more) p.0 (IsPermutation-sym (flat_map places_of more) found same) listed) in
+          (Contains-permutation found (flat_map points_of more) p.0
+          (IsPermutation-sym (flat_map points_of more) found same) listed) in
           let P : Configuration → Type 0 = λ c. IsSuccessor step (configuration_at cells q.0) c in
           (configuration_at cells q.0, has-map (configuration_at cells) last q.0 q.1, subst P p.2 q.2);
       unseen = λ c has old.
           let p = from-map (configuration_at cells) new c has in
           let P : List Configuration → Type 0 = λ cs. Contains cs c in
           let q = from-map (configuration_at cells) (before ++ last) c (subst P (sym before_last) old) in
-          let are_old = all-append (IsPlace image cells) before last are_before are_last in
-          let one = one_place q.0 p.0 (each-has (IsPlace image cells) (before ++ last) are_old q.0 q.1)
-          (each-has (IsPlace image cells) new are_new p.0 p.1) (q.2 ∙ sym p.2) in
-          let Q : Place → Type 0 = λ p. Contains (before ++ last) p in
+          let are_old = all-append (IsPoint image cells) before last are_before are_last in
+          let one = one_point q.0 p.0 (each-has (IsPoint image cells) (before ++ last) are_old q.0 q.1)
+          (each-has (IsPoint image cells) new are_new p.0 p.1) (q.2 ∙ sym p.2) in
+          let Q : Point → Type 0 = λ p. Contains (before ++ last) p in
           new-unseen found (before ++ last) new are p.0 p.1 (subst Q one q.1);
       all = λ b c has follows.
           let q = from-map (configuration_at cells) last b has in
           let P : Configuration → Type 0 = λ b. IsSuccessor step b c in
           let p = edge-to last more q.0 c each q.1 (subst P (sym q.2) follows) in
-          let known = new-all found (before ++ last) new are p.0 (Contains-permutation (flat_map places_of more) found p.0 same p.1) in
+          let known =
+          new-all found (before ++ last) new are p.0
+          (Contains-permutation (flat_map points_of more) found p.0 same p.1) in
           let Q : List Configuration → Type 0 = λ cs. Contains cs (configuration_at cells p.0) in
-          let R : Configuration → Type 0 = λ c. Contains ((configurations_at cells before ++ configurations_at cells last) ++ configurations_at cells new) c in
-          let whole = map-append (configuration_at cells) (before ++ last) new ∙ ap (λ cs. cs ++ configurations_at cells new) before_last in
+          let R : Configuration → Type 0 =
+          λ c. Contains
+          ((configurations_at cells before ++ configurations_at cells last) ++ configurations_at cells new) c in
+          let whole =
+          map-append (configuration_at cells) (before ++ last) new
+          ∙ ap (λ cs. cs ++ configurations_at cells new) before_last in
           subst R p.2 (subst Q whole (has-map (configuration_at cells) ((before ++ last) ++ new) p.0 known));
     }

@@ -1,4 +1,4 @@
--- The numbers of places, as a map has them.
+-- The numbers of points, as a map has them.
 use Rattle.std.proofs.Common.{◌≡◌, ℕ, zero, suc, ◌+◌, ◌<◌, ◌≤◌, ◌⊎◌, inl, inr, ⊎_elim, Bool, true, false, List, [], ◌∷◌, ◌++◌, length, get_or, take, drop, Option, Some, None, refl, sym, ap, ◌∙◌, subst, arith, append_assoc, append-nil, length-append, ◌*◌}
 use Rattle.std.specs.Prelude.{slice_get, Contains, MatchOption, flat_map}
 use Rattle.std.specs.Option.{option_to_list}
@@ -11,37 +11,39 @@ use Rattle.std.proofs.lemmas.Bool.{cases_lt}
 use Rattle.std.proofs.lemmas.List.{get_or_append_left, get_or_push, length_push, drop_more, drop_all, take_more}
 use Rattle.std.proofs.lemmas.Option.{slice_get_within, slice_get-get_or, get_or_from_slice_get, none-some}
 use Rattle.path_model.specs.declared.graph.Node.{Node}
-use Rattle.call_expand.specs.declared.place.Place.{Place}
-use Rattle.call_expand.specs.declared.place.Edges.{Edges}
-use Rattle.call_expand.specs.Place.{places_of}
-use Rattle.call_expand.specs.Numbers.{pair_cmp, AreNumbers, AreNew, IsAdded, IsNodeFor, AreNodesFor, AreAmong}
+use Rattle.call_expand.specs.declared.point.Point.{Point}
+use Rattle.call_expand.specs.declared.point.Edges.{Edges}
+use Rattle.call_expand.specs.Point.{points_of}
+use Rattle.call_expand.specs.Numbers.{pair_cmp, AreApart, AreNumbers, AreNew, IsAdded, IsNodeFor, AreNodesFor, AreAmong}
 use Rattle.call_expand.proofs.Zipped.{all-front, all-back}
-use Rattle.call_expand.proofs.Ordered.{place-parts, then_equal, nat_equal}
+use Rattle.call_expand.proofs.Ordered.{point-parts, then_equal, nat_equal}
 
 -- the numbers of pairs
 abbrev pub Numbers : Type 0
 Numbers = BTreeMap (ℕ × ℕ) ℕ
 
--- a listed place stands somewhere
-pub stands : (places : List Place) (p : Place) → Contains places p → (n : ℕ) × (slice_get places n ≡ Some p)
-stands places p has = (has.0, slice_get-get_or places has.0 p has.1 ∙ ap Some has.2)
+-- a listed point stands somewhere
+pub stands : (points : List Point) (p : Point) → Contains points p → (n : ℕ) × (slice_get points n ≡ Some p)
+stands points p has = (has.0, slice_get-get_or points has.0 p has.1 ∙ ap Some has.2)
 
--- a place that stands somewhere is listed
-pub listed-at : (places : List Place) (n : ℕ) (p : Place) → slice_get places n ≡ Some p → Contains places p
-listed-at places n p at = (n, slice_get_within places n p at, get_or_from_slice_get places n p p at)
+-- a point that stands somewhere is listed
+pub listed-at : (points : List Point) (n : ℕ) (p : Point) → slice_get points n ≡ Some p → Contains points p
+listed-at points n p at = (n, slice_get_within points n p at, get_or_from_slice_get points n p p at)
 
--- what the map has of a place is its number, or it isn't listed
-pub number-found : (places : List Place) (numbers : Numbers) → AreNumbers places numbers → (p : Place) (o : Option ℕ)
-    → o ≡ get pair_cmp numbers (p.at, p.stack) → MatchOption o (Contains places p → ⊥) (λ n. slice_get places n ≡ Some p)
-number-found places numbers are p None is =
-    λ has. let at = stands places p has in none-some at.0 (is ∙ are.found at.0 p at.1)
-number-found places numbers are p (Some n) is = are.only n p (sym is)
+-- what the map has of a point is its number, or it isn't listed
+pub number-found : (points : List Point) (numbers : Numbers) → AreNumbers points numbers → (p : Point) (o : Option ℕ)
+    → o ≡ get pair_cmp numbers (p.at, p.stack)
+    → MatchOption o (Contains points p → ⊥) (λ n. slice_get points n ≡ Some p)
+number-found points numbers are p None is =
+    λ has. let at = stands points p has in none-some at.0 (is ∙ are.found at.0 p at.1)
+number-found points numbers are p (Some n) is = are.only n p (sym is)
 
--- keys that are compared as equal are those of one place
-same-key : (p q : Place) → pair_cmp (p.at, p.stack) (q.at, q.stack) ≡ Equal → p ≡ q
+-- keys that are compared as equal are those of one point
+same-key : (p q : Point) → pair_cmp (p.at, p.stack) (q.at, q.stack) ≡ Equal → p ≡ q
 same-key p q equal =
     let both = then_equal (nat_cmp p.at q.at) (nat_cmp p.stack q.stack) equal in
-    place-parts p.at q.at p.stack q.stack (nat_equal p.at q.at (nat_cmp p.at q.at) refl both.0) (nat_equal p.stack q.stack (nat_cmp p.stack q.stack) refl both.1)
+    point-parts p.at q.at p.stack q.stack (nat_equal p.at q.at (nat_cmp p.at q.at) refl both.0)
+    (nat_equal p.stack q.stack (nat_cmp p.stack q.stack) refl both.1)
 
 -- a test of an order, and its cases
 is-equal : (o : Ordering) → is_eq o ≡ true → o ≡ Equal
@@ -53,160 +55,172 @@ bool-cases : (b : Bool) → (b ≡ true) ⊎ (b ≡ false)
 bool-cases true = inl refl
 bool-cases false = inr refl
 
--- an element of a list with one more is that one, or stands in front
-at-push : (places : List Place) (p q : Place) (n : ℕ) → slice_get (places ++ p ∷ []) n ≡ Some q
-    → ((n ≡ length places) × (p ≡ q)) ⊎ (slice_get places n ≡ Some q)
-at-push places p q n at =
-    let within = slice_get_within (places ++ p ∷ []) n q at in
-    let value : get_or (places ++ p ∷ []) n q ≡ q = get_or_from_slice_get (places ++ p ∷ []) n q q at in
+-- an element of a list with one more is that one, or stands before it
+at-push : (points : List Point) (p q : Point) (n : ℕ) → slice_get (points ++ p ∷ []) n ≡ Some q
+    → ((n ≡ length points) × (p ≡ q)) ⊎ (slice_get points n ≡ Some q)
+at-push points p q n at =
+    let within = slice_get_within (points ++ p ∷ []) n q at in
+    let value : get_or (points ++ p ∷ []) n q ≡ q = get_or_from_slice_get (points ++ p ∷ []) n q q at in
     ⊎_elim
-    (λ (front : n < length places).
-    inr (slice_get-get_or places n q front ∙ ap Some (sym (get_or_append_left places (p ∷ []) q n front) ∙ value)))
-    (λ (past : length places ≤ n).
-    let last : length places ≡ n = omega (arith, length_push places p) in
-    inl (sym last, sym (get_or_push places p q n last) ∙ value))
-    (cases_lt n (length places))
+    (λ (front : n < length points).
+    inr (slice_get-get_or points n q front ∙ ap Some (sym (get_or_append_left points (p ∷ []) q n front) ∙ value)))
+    (λ (past : length points ≤ n).
+    let last : length points ≡ n = omega (arith, length_push points p) in
+    inl (sym last, sym (get_or_push points p q n last) ∙ value))
+    (cases_lt n (length points))
 
 -- the elements of a list with one more
-front-push : (places : List Place) (p q : Place) (n : ℕ) → slice_get places n ≡ Some q → slice_get (places ++ p ∷ []) n ≡ Some q
-front-push places p q n at =
-    let within = slice_get_within places n q at in
-    slice_get-get_or (places ++ p ∷ []) n q (omega (arith, length_push places p))
-    ∙ ap Some (get_or_append_left places (p ∷ []) q n within ∙ get_or_from_slice_get places n q q at)
+front-push : (points : List Point) (p q : Point) (n : ℕ) → slice_get points n ≡ Some q
+    → slice_get (points ++ p ∷ []) n ≡ Some q
+front-push points p q n at =
+    let within = slice_get_within points n q at in
+    slice_get-get_or (points ++ p ∷ []) n q (omega (arith, length_push points p))
+    ∙ ap Some (get_or_append_left points (p ∷ []) q n within ∙ get_or_from_slice_get points n q q at)
 
-last-push : (places : List Place) (p : Place) → slice_get (places ++ p ∷ []) (length places) ≡ Some p
-last-push places p =
-    slice_get-get_or (places ++ p ∷ []) (length places) p (omega (arith, length_push places p))
-    ∙ ap Some (get_or_push places p p (length places) refl)
+last-push : (points : List Point) (p : Point) → slice_get (points ++ p ∷ []) (length points) ≡ Some p
+last-push points p =
+    slice_get-get_or (points ++ p ∷ []) (length points) p (omega (arith, length_push points p))
+    ∙ ap Some (get_or_push points p p (length points) refl)
 
--- the map with one more place
-pub numbers-push : (places : List Place) (before after : Numbers) (p : Place) (number : ℕ) → number ≡ length places → AreNumbers places before
-    → (Contains places p → ⊥) → Updates pair_cmp before after (p.at, p.stack) (Some number) → AreNumbers (places ++ p ∷ []) after
-numbers-push places before after p number is_length are new updates = record {
+-- the map with one more point
+pub numbers-push : (points : List Point) (before after : Numbers) (p : Point) (number : ℕ) → number ≡ length points
+    → AreNumbers points before
+    → (Contains points p → ⊥) → Updates pair_cmp before after (p.at, p.stack) (Some number)
+    → AreNumbers (points ++ p ∷ []) after
+numbers-push points before after p number is_length are new updates = record {
   found = λ n q at.
       ⊎_elim
-      (λ (last : (n ≡ length places) × (p ≡ q)).
-      let P : Place → Type 0 = λ q. get pair_cmp after (q.at, q.stack) ≡ Some n in
+      (λ (last : (n ≡ length points) × (p ≡ q)).
+      let P : Point → Type 0 = λ q. get pair_cmp after (q.at, q.stack) ≡ Some n in
       subst P last.1 (updates.1 ∙ ap Some (is_length ∙ sym last.0)))
-      (λ (front : slice_get places n ≡ Some q).
+      (λ (front : slice_get points n ≡ Some q).
       ⊎_elim
       (λ (same : is_eq (pair_cmp (p.at, p.stack) (q.at, q.stack)) ≡ true).
       let one : p ≡ q = same-key p q (is-equal (pair_cmp (p.at, p.stack) (q.at, q.stack)) same) in
-      let P : Place → Type 0 = λ q. slice_get places n ≡ Some q in
-      absurd (new (listed-at places n p (subst P (sym one) front))))
+      let P : Point → Type 0 = λ q. slice_get points n ≡ Some q in
+      absurd (new (listed-at points n p (subst P (sym one) front))))
       (λ (other : is_eq (pair_cmp (p.at, p.stack) (q.at, q.stack)) ≡ false).
       updates.2 (q.at, q.stack) other ∙ are.found n q front)
       (bool-cases (is_eq (pair_cmp (p.at, p.stack) (q.at, q.stack)))))
-      (at-push places p q n at);
+      (at-push points p q n at);
   only = λ n q has.
       ⊎_elim
       (λ (same : is_eq (pair_cmp (p.at, p.stack) (q.at, q.stack)) ≡ true).
       let one : p ≡ q = same-key p q (is-equal (pair_cmp (p.at, p.stack) (q.at, q.stack)) same) in
-      let P : Place → Type 0 = λ q. get pair_cmp after (q.at, q.stack) ≡ Some n in
+      let P : Point → Type 0 = λ q. get pair_cmp after (q.at, q.stack) ≡ Some n in
       let here : Some number ≡ Some n = sym updates.1 ∙ subst P (sym one) has in
-      let last : length places ≡ n = cc in
-      let Q : Place → Type 0 = λ q. slice_get (places ++ p ∷ []) n ≡ Some q in
-      let R : ℕ → Type 0 = λ n. slice_get (places ++ p ∷ []) n ≡ Some p in
-      subst Q one (subst R last (last-push places p)))
+      let last : length points ≡ n = cc in
+      let Q : Point → Type 0 = λ q. slice_get (points ++ p ∷ []) n ≡ Some q in
+      let R : ℕ → Type 0 = λ n. slice_get (points ++ p ∷ []) n ≡ Some p in
+      subst Q one (subst R last (last-push points p)))
       (λ (other : is_eq (pair_cmp (p.at, p.stack) (q.at, q.stack)) ≡ false).
-      front-push places p q n (are.only n q (sym (updates.2 (q.at, q.stack) other) ∙ has)))
+      front-push points p q n (are.only n q (sym (updates.2 (q.at, q.stack) other) ∙ has)))
       (bool-cases (is_eq (pair_cmp (p.at, p.stack) (q.at, q.stack))));
 }
 
--- the first i of the found places are numbered: those so far new stand behind the places of the beginning
-pub record AreAdded (initial : List Place) (found : List Place) (i : ℕ) (now : List Place) (numbers : Numbers) : Type 0 where
-  pub more : List Place
+-- no point has two numbers
+pub apart-numbers : (points : List Point) (numbers : Numbers) → AreNumbers points numbers → AreApart points
+apart-numbers points numbers are n m p first second =
+    let same : Some n ≡ Some m = sym (are.found n p first) ∙ are.found m p second in cc
+
+-- the first i of the found points are added: those so far new stand after the points of the beginning
+pub record AreAdded (initial : List Point) (found : List Point) (i : ℕ) (now : List Point) : Type 0 where
+  pub more : List Point
   pub is : now ≡ initial ++ more
   pub few : length now ≤ length initial + i
-  pub numbered : AreNumbers now numbers
-  pub rest : (rest : List Place) → AreNew now (drop i found) rest → AreNew initial found (more ++ rest)
+  pub rest : (rest : List Point) → AreNew now (drop i found) rest → AreNew initial found (more ++ rest)
 
--- one place more
-pub added-more : (initial found : List Place) (i : ℕ) (now after : List Place) (before numbers : Numbers) (p d : Place) → i < length found → p ≡ get_or found i d
-    → AreAdded initial found i now before → AreNumbers after numbers → IsAdded now p after → AreAdded initial found (i + 1) after numbers
-added-more initial found i now after before numbers p d within here added are (inl old) =
-    let next : drop i found ≡ p ∷ drop (i + 1) found = drop_more found i d within ∙ ap (λ p. p ∷ drop (i + 1) found) (sym here) in
+-- one point more
+pub added-more : (initial found : List Point) (i : ℕ) (now after : List Point) (p d : Point) → i < length found
+    → p ≡ get_or found i d
+    → AreAdded initial found i now → IsAdded now p after → AreAdded initial found (i + 1) after
+added-more initial found i now after p d within here added (inl old) =
+    let next : drop i found ≡ p ∷ drop (i + 1) found =
+    drop_more found i d within ∙ ap (λ p. p ∷ drop (i + 1) found) (sym here) in
     record {
       more = added.more;
       is = old.1 ∙ added.is;
       few = omega (arith, ap length old.1, added.few);
-      numbered = are;
       rest = λ rest new.
-          let P : List Place → Type 0 = λ places. AreNew now places rest in
-          let Q : List Place → Type 0 = λ seen. AreNew seen (drop (i + 1) found) rest in
+          let P : List Point → Type 0 = λ points. AreNew now points rest in
+          let Q : List Point → Type 0 = λ seen. AreNew seen (drop (i + 1) found) rest in
           added.rest rest (subst P (sym next) (inl (old.0, subst Q old.1 new)));
     }
-added-more initial found i now after before numbers p d within here added are (inr fresh) =
-    let next : drop i found ≡ p ∷ drop (i + 1) found = drop_more found i d within ∙ ap (λ p. p ∷ drop (i + 1) found) (sym here) in
+added-more initial found i now after p d within here added (inr fresh) =
+    let next : drop i found ≡ p ∷ drop (i + 1) found =
+    drop_more found i d within ∙ ap (λ p. p ∷ drop (i + 1) found) (sym here) in
     record {
       more = added.more ++ p ∷ [];
       is = fresh.1 ∙ ap (λ ps. ps ++ p ∷ []) added.is ∙ append_assoc initial added.more (p ∷ []);
       few = omega (arith, ap length fresh.1, length_push now p, added.few);
-      numbered = are;
       rest = λ rest new.
-          let P : List Place → Type 0 = λ places. AreNew now places (p ∷ rest) in
-          let Q : List Place → Type 0 = λ seen. AreNew seen (drop (i + 1) found) rest in
-          let R : List Place → Type 0 = λ more. AreNew initial found more in
+          let P : List Point → Type 0 = λ points. AreNew now points (p ∷ rest) in
+          let Q : List Point → Type 0 = λ seen. AreNew seen (drop (i + 1) found) rest in
+          let R : List Point → Type 0 = λ more. AreNew initial found more in
           subst R (sym (append_assoc added.more (p ∷ []) rest))
           (added.rest (p ∷ rest) (subst P (sym next) (inr (fresh.0, rest, refl, subst Q fresh.1 new))));
     }
 
--- all places are added
-pub added-all : (initial found : List Place) (now : List Place) (numbers : Numbers) (i : ℕ) → length found ≤ i → AreAdded initial found i now numbers
-    → (more : List Place) × (now ≡ initial ++ more) × AreNew initial found more
-added-all initial found now numbers i past added =
-    let P : List Place → Type 0 = λ places. AreNew now places [] in
-    let Q : List Place → Type 0 = λ more. AreNew initial found more in
+-- all points are added
+pub added-all : (initial found now : List Point) (i : ℕ) → length found ≤ i → AreAdded initial found i now
+    → (more : List Point) × (now ≡ initial ++ more) × AreNew initial found more
+added-all initial found now i past added =
+    let P : List Point → Type 0 = λ points. AreNew now points [] in
+    let Q : List Point → Type 0 = λ more. AreNew initial found more in
     (added.more, added.is, subst Q (append-nil added.more) (added.rest [] (subst P (sym (drop_all i found past)) refl)))
 
--- the places of one edge more
-pub found-more : (edges : List Edges) (i : ℕ) (d edge : Edges) (found first second : List Place) → i < length edges → edge ≡ get_or edges i d
-    → found ≡ flat_map places_of (take i edges) → first ≡ found ++ option_to_list edge.first → second ≡ first ++ option_to_list edge.second
-    → second ≡ flat_map places_of (take (i + 1) edges)
+-- the points of one edge more
+pub found-more : (edges : List Edges) (i : ℕ) (d edge : Edges) (found first second : List Point) → i < length edges
+    → edge ≡ get_or edges i d
+    → found ≡ flat_map points_of (take i edges) → first ≡ found ++ option_to_list edge.first
+    → second ≡ first ++ option_to_list edge.second
+    → second ≡ flat_map points_of (take (i + 1) edges)
 found-more edges i d edge found first second within here was one two =
     two
     ∙ ap (λ ps. ps ++ option_to_list edge.second) (one ∙ ap (λ ps. ps ++ option_to_list edge.first) was)
-    ∙ append_assoc (flat_map places_of (take i edges)) (option_to_list edge.first) (option_to_list edge.second)
-    ∙ ap (λ (e : Edges). flat_map places_of (take i edges) ++ places_of e) here
-    ∙ ap (λ ps. flat_map places_of (take i edges) ++ ps) (sym (append-nil (places_of (get_or edges i d))))
-    ∙ sym (flat_map-append places_of (take i edges) (get_or edges i d ∷ []))
-    ∙ ap (flat_map places_of) (sym (take_more edges i d within))
+    ∙ append_assoc (flat_map points_of (take i edges)) (option_to_list edge.first) (option_to_list edge.second)
+    ∙ ap (λ (e : Edges). flat_map points_of (take i edges) ++ points_of e) here
+    ∙ ap (λ ps. flat_map points_of (take i edges) ++ ps) (sym (append-nil (points_of (get_or edges i d))))
+    ∙ sym (flat_map-append points_of (take i edges) (get_or edges i d ∷ []))
+    ∙ ap (flat_map points_of) (sym (take_more edges i d within))
 
 -- an option lists at most one
 length-option : {X : Type 0} (o : Option X) → length (option_to_list o) ≤ 1
 length-option None = omega arith
 length-option (Some x) = omega arith
 
--- edges lead to at most two places each
-pub length-places : (edges : List Edges) → length (flat_map places_of edges) ≤ 2 * length edges
-length-places [] = omega arith
-length-places (edge ∷ edges) =
+-- edges lead to at most two points each
+pub length-points : (edges : List Edges) → length (flat_map points_of edges) ≤ 2 * length edges
+length-points [] = omega arith
+length-points (edge ∷ edges) =
     omega (
       arith,
-      length-append (places_of edge) (flat_map places_of edges),
+      length-append (points_of edge) (flat_map points_of edges),
       length-append (option_to_list edge.first) (option_to_list edge.second),
       length-option edge.first,
       length-option edge.second,
-      length-places edges,
+      length-points edges,
     )
 
--- the places of one of the edges
-pub among-at : (all : List Place) (edges : List Edges) (i : ℕ) (d : Edges) → AreAmong all (flat_map places_of edges) → i < length edges
-    → AreAmong all (places_of (get_or edges i d))
+-- the points of one of the edges
+pub among-at : (all : List Point) (edges : List Edges) (i : ℕ) (d : Edges) → AreAmong all (flat_map points_of edges)
+    → i < length edges
+    → AreAmong all (points_of (get_or edges i d))
 among-at all [] i d among below = absurd (omega arith)
-among-at all (edge ∷ edges) zero d among below = all-front (Contains all) (places_of edge) (flat_map places_of edges) among
+among-at all (edge ∷ edges) zero d among below =
+    all-front (Contains all) (points_of edge) (flat_map points_of edges) among
 among-at all (edge ∷ edges) (suc i) d among below =
-    among-at all edges i d (all-back (Contains all) (places_of edge) (flat_map places_of edges) among) (omega arith)
+    among-at all edges i d (all-back (Contains all) (points_of edge) (flat_map points_of edges) among) (omega arith)
 
 -- one node more
-pub nodes-more : (all places : List Place) (edges : List Edges) (nodes : List Node) (i : ℕ) (p : Place) (e : Edges) (node : Node)
-    → i < length places → i < length edges → AreNodesFor all (take i places) (take i edges) nodes
-    → IsNodeFor all (get_or places i p) (get_or edges i e) node
-    → AreNodesFor all (take (suc i) places) (take (suc i) edges) (nodes ++ node ∷ [])
+pub nodes-more : (all points : List Point) (edges : List Edges) (nodes : List Node) (i : ℕ) (p : Point) (e : Edges)
+    (node : Node) → i < length points → i < length edges → AreNodesFor all (take i points) (take i edges) nodes
+    → IsNodeFor all (get_or points i p) (get_or edges i e) node
+    → AreNodesFor all (take (suc i) points) (take (suc i) edges) (nodes ++ node ∷ [])
 nodes-more all [] edges nodes i p e node first second are is = absurd (omega arith)
-nodes-more all (place ∷ places) [] nodes i p e node first second are is = absurd (omega arith)
-nodes-more all (place ∷ places) (edge ∷ edges) [] zero p e node first second are is = (is, tt)
-nodes-more all (place ∷ places) (edge ∷ edges) (n ∷ nodes) zero p e node first second are is = absurd are
-nodes-more all (place ∷ places) (edge ∷ edges) [] (suc i) p e node first second are is = absurd are
-nodes-more all (place ∷ places) (edge ∷ edges) (n ∷ nodes) (suc i) p e node first second are is =
-    (are.0, nodes-more all places edges nodes i p e node (omega arith) (omega arith) are.1 is)
+nodes-more all (point ∷ points) [] nodes i p e node first second are is = absurd (omega arith)
+nodes-more all (point ∷ points) (edge ∷ edges) [] zero p e node first second are is = (is, tt)
+nodes-more all (point ∷ points) (edge ∷ edges) (n ∷ nodes) zero p e node first second are is = absurd are
+nodes-more all (point ∷ points) (edge ∷ edges) [] (suc i) p e node first second are is = absurd are
+nodes-more all (point ∷ points) (edge ∷ edges) (n ∷ nodes) (suc i) p e node first second are is =
+    (are.0, nodes-more all points edges nodes i p e node (omega arith) (omega arith) are.1 is)

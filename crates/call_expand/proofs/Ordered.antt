@@ -16,15 +16,15 @@ use Rattle.flow_spec.specs.Configuration.{Configuration}
 use Rattle.flow_spec.specs.Order.{numbers_of}
 use Rattle.frame_stacks.specs.declared.stacks.StackCell.{StackCell}
 use Rattle.frame_stacks.specs.Stacks.{AreCells, frames_of}
-use Rattle.call_expand.specs.declared.place.Place.{Place}
-use Rattle.call_expand.specs.Place.{configuration_at, place_cmp}
+use Rattle.call_expand.specs.declared.point.Point.{Point}
+use Rattle.call_expand.specs.Point.{configuration_at, point_cmp}
 
--- the order of places is total, and a sort may go by it
-pub place_total : (cells : List StackCell) → IsTotalOrder (place_cmp cells)
-place_total cells = on_total (λ (place : Place). numbers_of (configuration_at cells place)) nat_list_cmp_total
+-- the order of points is total, and a sort may go by it
+pub point_total : (cells : List StackCell) → IsTotalOrder (point_cmp cells)
+point_total cells = on_total (λ (point : Point). numbers_of (configuration_at cells point)) nat_list_cmp_total
 
-pub place_ranks : (cells : List StackCell) → IsStrictWeakOrder (λ (a b : Place). is_lt (place_cmp cells a b))
-place_ranks cells = ranks_by nat_list_cmp_total (λ (place : Place). numbers_of (configuration_at cells place))
+pub point_ranks : (cells : List StackCell) → IsStrictWeakOrder (λ (a b : Point). is_lt (point_cmp cells a b))
+point_ranks cells = ranks_by nat_list_cmp_total (λ (point : Point). numbers_of (configuration_at cells point))
 
 -- two orders that are equal one after the other
 pub then_equal : (o p : Ordering) → ordering_then o p ≡ Equal → (o ≡ Equal) × (p ≡ Equal)
@@ -38,27 +38,30 @@ nat_equal x y o is equal =
     by_ranked (x < y) (x ≡ y) (y < x) o (ranked x y o is)
     (λ (less : o ≡ Less) below. absurd (cc)) (λ (_ : o ≡ Equal) same. same) (λ (more : o ≡ Greater) above. absurd (cc))
 
--- a place by its parts
-abbrev pub place : ℕ → ℕ → Place
-place at stack = record { at = at; stack = stack }
+-- a point by its parts
+abbrev pub point : ℕ → ℕ → Point
+point at stack = record { at = at; stack = stack }
 
--- places with the same parts are the same
-pub place-parts : (p q s t : ℕ) → p ≡ q → s ≡ t → place p s ≡ place q t
-place-parts p q s t at stack = cc
+-- points with the same parts are the same
+pub point-parts : (p q s t : ℕ) → p ≡ q → s ≡ t → point p s ≡ point q t
+point-parts p q s t at stack = cc
 
--- places of one configuration are the same
-pub same_place : (cells : List StackCell) (a b : Place) → AreCells cells → a.stack ≤ length cells → b.stack ≤ length cells
+-- points of one configuration are the same
+pub same_point : (cells : List StackCell) (a b : Point) → AreCells cells → a.stack ≤ length cells
+    → b.stack ≤ length cells
     → configuration_at cells a ≡ configuration_at cells b → a ≡ b
-same_place cells a b are first second same =
+same_point cells a b are first second same =
     let frames : frames_of cells a.stack ≡ frames_of cells b.stack = ap (λ (c : Configuration). c.frames) same in
     let at : a.at ≡ b.at = ap (λ (c : Configuration). c.at) same in
-    place-parts a.at b.at a.stack b.stack at (are.alone a.stack b.stack first second frames)
+    point-parts a.at b.at a.stack b.stack at (are.alone a.stack b.stack first second frames)
 
--- a sort whose calls answer by the order leaves places in that order
-pub sorted-by : (cells : List StackCell) {F : Type 0} {g : Mut F (Bor Place × (Bor Place × Unit {0})) Ordering} {f : F} (places : List Place)
-    → ((lt : Place → Place → Bool) → IsStrictWeakOrder lt → ComparesAs g lt f → IsSortedBy lt places)
-    → ((a : Bor Place × (Bor Place × Unit {0})) (r : Ordering) (f' : F) → Called g f a r f' → (r ≡ place_cmp cells a.0.now a.1.0.now) × (f' ≡ f))
-    → IsSorted (place_cmp cells) places
-sorted-by cells places sorted calls =
-    sorted (λ a b. is_lt (place_cmp cells a b)) (place_ranks cells)
+-- a sort whose calls answer by the order leaves points in that order
+pub sorted-by : (cells : List StackCell) {F : Type 0} {g : Mut F (Bor Point × (Bor Point × Unit {0})) Ordering}
+    {f : F} (points : List Point)
+    → ((lt : Point → Point → Bool) → IsStrictWeakOrder lt → ComparesAs g lt f → IsSortedBy lt points)
+    → ((a : Bor Point × (Bor Point × Unit {0})) (r : Ordering) (f' : F) → Called g f a r f'
+    → (r ≡ point_cmp cells a.0.now a.1.0.now) × (f' ≡ f))
+    → IsSorted (point_cmp cells) points
+sorted-by cells points sorted calls =
+    sorted (λ a b. is_lt (point_cmp cells a b)) (point_ranks cells)
     (always_returns_same _ _ _ (λ a r f' k. let both = calls a r f' k in (ap is_lt both.0, both.1)))

@@ -26,18 +26,21 @@ listed : (o : Option Node) (m : ℕ) → IsOkAnd (successors o) (λ s. Contains 
 listed None m none = absurd none
 listed (Some node) m has = (node, refl, has)
 
-module _ (step : Step) (entry : ℕ) (configurations : List Configuration) (nodes : List Node) (is : IsGraphOf step entry configurations nodes) where
+module _ (step : Step) (entry : ℕ) (configurations : List Configuration) (nodes : List Node)
+    (is : IsGraphOf step entry configurations nodes) where
   -- there is a node for each configuration
   as_many : length configurations ≡ length nodes
   as_many = zip-length (IsNodeOf step configurations) configurations nodes is.each
 
   -- a node is that of the configuration with its number
-  pub node_at : (n : ℕ) (node : Node) → slice_get nodes n ≡ Some node → IsNodeOf step configurations (numbered configurations n) node
+  pub node_at : (n : ℕ) (node : Node) → slice_get nodes n ≡ Some node
+      → IsNodeOf step configurations (numbered configurations n) node
   node_at n node found =
       let below = slice_get_within nodes n node found in
       let P : Node → Type 0 = λ node. IsNodeOf step configurations (numbered configurations n) node in
       subst P (get_or_from_slice_get nodes n node node found)
-      (zip-at (IsNodeOf step configurations) configurations nodes n (start_of 0) node is.each (omega (arith, as_many, below)))
+      (zip-at (IsNodeOf step configurations) configurations nodes n (start_of 0) node is.each
+      (omega (arith, as_many, below)))
 
   -- a successor is the number of a node
   inside : (n m : ℕ) → IsSuccessor (graph_step nodes) n m → m < length nodes
@@ -51,24 +54,29 @@ module _ (step : Step) (entry : ℕ) (configurations : List Configuration) (node
   member_inside m (n ∷ earlier) path = inside n m path.0
 
   -- a move of the graph is one of the configurations
-  follow_to : (n m : ℕ) → IsSuccessor (graph_step nodes) n m → IsSuccessor step (numbered configurations n) (numbered configurations m)
+  follow_to : (n m : ℕ) → IsSuccessor (graph_step nodes) n m
+      → IsSuccessor step (numbered configurations n) (numbered configurations m)
   follow_to n m follows =
       let from = listed (slice_get nodes n) m follows in
       let P : Successors → Type 0 = λ r. IsOkAnd r (λ s. Contains s (numbered configurations m)) in
-      subst P (sym (node_at n from.0 from.1).goes) (has-map (numbered configurations) (links from.0.first from.0.second) m from.2)
+      subst P (sym (node_at n from.0 from.1).goes)
+      (has-map (numbered configurations) (links from.0.first from.0.second) m from.2)
 
-  -- and a move of the configurations is one of the graph
+  -- a move of the configurations is one of the graph
   follow_from : (n : ℕ) (d : Configuration) → n < length nodes → IsSuccessor step (numbered configurations n) d
       → (m : ℕ) × IsSuccessor (graph_step nodes) n m × (numbered configurations m ≡ d)
   follow_from n d below follows =
       let node = found-inside nodes n below in
       let P : Successors → Type 0 = λ r. IsOkAnd r (λ s. Contains s d) in
-      let has = from-map (numbered configurations) (links node.0.first node.0.second) d (subst P (node_at n node.0 node.1).goes follows) in
+      let has =
+      from-map (numbered configurations) (links node.0.first node.0.second) d
+      (subst P (node_at n node.0 node.1).goes follows) in
       let Q : Option Node → Type 0 = λ o. IsOkAnd (successors o) (λ s. Contains s has.0) in
       (has.0, subst Q (sym node.1) has.1, has.2)
 
   -- a path of the graph is one of the configurations
-  pub path_to : (members : List ℕ) → IsPath (graph_step nodes) 0 members → IsPath step (start_of entry) (map (numbered configurations) members)
+  pub path_to : (members : List ℕ) → IsPath (graph_step nodes) 0 members
+      → IsPath step (start_of entry) (map (numbered configurations) members)
   path_to [] path = path
   path_to (n ∷ []) path = ap (numbered configurations) path ∙ is.begins
   path_to (m ∷ n ∷ earlier) path = (follow_to n m path.0, path_to (n ∷ earlier) path.1)
@@ -76,7 +84,8 @@ module _ (step : Step) (entry : ℕ) (configurations : List Configuration) (node
   -- one member more
   path_more : (d c : Configuration) (earlier : List Configuration) → IsSuccessor step c d
       → (members : List ℕ) × IsPath (graph_step nodes) 0 members × (map (numbered configurations) members ≡ c ∷ earlier)
-      → (members : List ℕ) × IsPath (graph_step nodes) 0 members × (map (numbered configurations) members ≡ d ∷ c ∷ earlier)
+      → (members : List ℕ) × IsPath (graph_step nodes) 0 members
+      × (map (numbered configurations) members ≡ d ∷ c ∷ earlier)
   path_more d c earlier follows ([], path, same) = absurd path
   path_more d c earlier follows (n ∷ members, path, same) =
       let here : numbered configurations n ≡ c = cc in
@@ -104,8 +113,10 @@ module _ (step : Step) (entry : ℕ) (configurations : List Configuration) (node
       cc (address_at m (member_inside m (n ∷ earlier) path), path_addresses (n ∷ earlier) path.1)
 
   -- the letter of a move of the graph is that of the move of the configurations
-  letter_to : (first second : Option ℕ) (m : ℕ) (letter : List ℕ) → IsLetter {C = ℕ} {F = Unit {0}} (Ok (links first second)) m letter
-      → IsLetter {C = Configuration} {F = FlowFault} (Ok (map (numbered configurations) (links first second))) (numbered configurations m) letter
+  letter_to : (first second : Option ℕ) (m : ℕ) (letter : List ℕ)
+      → IsLetter {C = ℕ} {F = Unit {0}} (Ok (links first second)) m letter
+      → IsLetter {C = Configuration} {F = FlowFault} (Ok (map (numbered configurations) (links first second)))
+      (numbered configurations m) letter
   letter_to None None m letter has = has
   letter_to None (Some b) m letter has = has
   letter_to (Some a) None m letter has = has
@@ -115,10 +126,11 @@ module _ (step : Step) (entry : ℕ) (configurations : List Configuration) (node
       (λ (t : (m ≡ b) × (letter ≡ codes "t")). inr (ap (numbered configurations) t.0, t.1))
       has
 
-  -- and back
+  -- a letter of the configurations of links is one of the links
   letter_from : (first second : Option ℕ) (m : ℕ) (letter : List ℕ) → m < length nodes
       → ((a : ℕ) → (first ≡ Some a) ⊎ (second ≡ Some a) → a < length nodes)
-      → IsLetter {C = Configuration} {F = FlowFault} (Ok (map (numbered configurations) (links first second))) (numbered configurations m) letter
+      → IsLetter {C = Configuration} {F = FlowFault} (Ok (map (numbered configurations) (links first second)))
+      (numbered configurations m) letter
       → IsLetter {C = ℕ} {F = Unit {0}} (Ok (links first second)) m letter
   letter_from None None m letter below fit has = has
   letter_from None (Some b) m letter below fit has = has
@@ -131,7 +143,7 @@ module _ (step : Step) (entry : ℕ) (configurations : List Configuration) (node
       inr (is.apart m b (omega (arith, as_many)) (omega (arith, as_many, fit b (inr refl))) t.0, t.1))
       has
 
-  -- the same, of a node
+  -- a letter of a node is one of its configuration
   move_to : (n m : ℕ) (letter : List ℕ) → n < length nodes → IsLetter (graph_step nodes n) m letter
       → IsLetter (step (numbered configurations n)) (numbered configurations m) letter
   move_to n m letter below has =
@@ -140,19 +152,22 @@ module _ (step : Step) (entry : ℕ) (configurations : List Configuration) (node
       let Q : Successors → Type 0 = λ r. IsLetter r (numbered configurations m) letter in
       subst Q (sym (node_at n node.0 node.1).goes) (letter_to node.0.first node.0.second m letter (subst P node.1 has))
 
-  -- and back
+  -- a letter of a configuration is one of its node
   move_from : (n m : ℕ) (letter : List ℕ) → n < length nodes → m < length nodes
-      → IsLetter (step (numbered configurations n)) (numbered configurations m) letter → IsLetter (graph_step nodes n) m letter
+      → IsLetter (step (numbered configurations n)) (numbered configurations m) letter
+      → IsLetter (graph_step nodes n) m letter
   move_from n m letter below within has =
       let node = found-inside nodes n below in
       let P : Option Node → Type 0 = λ o. IsLetter (successors o) m letter in
       let Q : Successors → Type 0 = λ r. IsLetter r (numbered configurations m) letter in
       let fit = λ (a : ℕ) (leads : LeadsTo node.0 a).
       below-from_fit (length nodes) a node.0 (fit_at nodes (length nodes) n node.0 is.graph.fit node.1) leads in
-      subst P (sym node.1) (letter_from node.0.first node.0.second m letter within fit (subst Q (node_at n node.0 node.1).goes has))
+      subst P (sym node.1) (letter_from node.0.first node.0.second m letter within fit
+      (subst Q (node_at n node.0 node.1).goes has))
 
   -- the choices of a path of the graph are those of the configurations
-  pub choices_to : (members choices : List ℕ) → IsPath (graph_step nodes) 0 members → HasChoices (graph_step nodes) members choices
+  pub choices_to : (members choices : List ℕ) → IsPath (graph_step nodes) 0 members
+      → HasChoices (graph_step nodes) members choices
       → HasChoices step (map (numbered configurations) members) choices
   choices_to [] choices path has = has
   choices_to (n ∷ []) choices path has = has
@@ -164,7 +179,7 @@ module _ (step : Step) (entry : ℕ) (configurations : List Configuration) (node
     has.4,
   )
 
-  -- and back
+  -- the choices of the configurations of a path are those of the path
   pub choices_from : (members choices : List ℕ) → IsPath (graph_step nodes) 0 members
       → HasChoices step (map (numbered configurations) members) choices → HasChoices (graph_step nodes) members choices
   choices_from [] choices path has = has

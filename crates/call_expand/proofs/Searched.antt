@@ -37,32 +37,37 @@ module _ {C F : Type 0} (step : C → Result (List C) F) (start : C) (order : C 
     closed = λ b c has follows. absurd (omega (arith, has.1));
   }
 
-  -- and is layer 0
+  -- the start alone is layer 0
   pub first_layer : IsLayer step start order 0 (start ∷ [])
   unfolding IsStrictlySortedBy
   first_layer = record {
     sorted = (tt, tt);
     members = λ c. (
-      λ has. record { reached = ([], refl, has-only start c has); no_sooner = λ m sooner reached. absurd (omega arith) },
+      λ has. record {
+        reached = ([], refl, has-only start c has);
+        no_sooner = λ m sooner reached. absurd (omega arith);
+      },
       λ layer. (0, lit< tt, sym (short layer.reached.0 c layer.reached.1 layer.reached.2)),
     );
   }
 
-  module _ (n : ℕ) (before last next : List C) (searched : IsSearched step start n before last) (is : AreNext step order before last next) where
+  module _ (n : ℕ) (before last next : List C) (searched : IsSearched step start n before last)
+      (is : AreNext step order before last next) where
     -- a state of the next list is reached one step later
     next_reached : (c : C) → Contains next c → IsReachedIn step start (n + 1) c
     next_reached c has =
         let from = is.follow c has in
         later from.0 c n (searched.last_reached from.0 from.1) from.2
 
-    -- a state that so many steps reach is among all of them
+    -- a state that at most n + 1 steps reach is among all of them
     covered_more : (m : ℕ) (c : C) → m ≤ n + 1 → IsReachedIn step start m c → Contains ((before ++ last) ++ next) c
     covered_more m c within reached =
         elim (eq-or-lt_of_le within) as (λ h. Contains ((before ++ last) ++ next) c) [
           | inl same ↦
               let from = longer reached.0 c n (omega (arith, reached.1)) reached.2 in
               ⊎_elim
-              (λ (has : Contains before from.0). Contains-append_left (before ++ last) next c (searched.closed from.0 c has from.2))
+              (λ (has : Contains before from.0). Contains-append_left (before ++ last) next c
+              (searched.closed from.0 c has from.2))
               (λ (has : Contains last from.0). is.all from.0 c has from.2)
               (Contains-append_cases before last from.0 (searched.covered n from.0 (omega arith) from.1))
           | inr sooner ↦ Contains-append_left (before ++ last) next c (searched.covered m c (omega arith) reached)
@@ -86,7 +91,7 @@ module _ {C F : Type 0} (step : C → Result (List C) F) (start : C) (order : C 
           (Contains-append_cases before last b has);
     }
 
-    -- and the next list is the next layer
+    -- the next list is the next layer
     pub next_layer : IsLayer step start order (n + 1) next
     next_layer = record {
       sorted = is.sorted;
@@ -106,7 +111,8 @@ module _ {C F : Type 0} (step : C → Result (List C) F) (start : C) (order : C 
     }
 
   -- one layer more
-  pub layers_more : (k j : ℕ) (layers : List (List C)) (layer : List C) → k + length layers ≡ j → AreLayersFrom step start order k layers
+  pub layers_more : (k j : ℕ) (layers : List (List C)) (layer : List C) → k + length layers ≡ j
+      → AreLayersFrom step start order k layers
       → IsLayer step start order j layer → AreLayersFrom step start order k (layers ++ layer ∷ [])
   layers_more k j [] layer at are is =
       let P : ℕ → Type 0 = λ j. IsLayer step start order j layer in

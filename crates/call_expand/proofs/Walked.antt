@@ -16,13 +16,14 @@ use Rattle.flow_spec.specs.Acceptance.{Step, AreLayers, IsFaultless, IsAccepted,
 use Rattle.flow_spec.specs.declared.fault.FlowFault.{FlowFault}
 use Rattle.flow_spec.specs.declared.fault.FlowFault.TheVariants.{TooManyFetches}
 use Rattle.call_expand.specs.Expansion.{numbered}
-use Rattle.call_expand.specs.Place.{FailsAt}
+use Rattle.call_expand.specs.Point.{FailsAt}
 use Rattle.call_expand.specs.Search.{IsSearched, AreNext, FollowSmaller, IsWalked}
 use Rattle.call_expand.proofs.Zipped.{all-append}
 use Rattle.call_expand.proofs.Searched.{begun, first_layer, searched_more, next_layer, layers_more}
 
 -- the configuration with a number that is in the front
-pub numbered-front : (front back : List Configuration) (n : ℕ) → n < length front → numbered (front ++ back) n ≡ numbered front n
+pub numbered-front : (front back : List Configuration) (n : ℕ) → n < length front
+    → numbered (front ++ back) n ≡ numbered front n
 numbered-front front back n below = get_or_append_left front back (start_of 0) n below
 
 -- a successor, where both are given otherwise
@@ -79,7 +80,9 @@ module _ (step : Step) (image : Image) (entry : ℕ) where
           record {
             entry_is_good = walked.entry_is_good;
             are_layers = subst Layers fails.split walked.are_layers;
-            faultless = all-append (IsFaultless step) (all_of walked.earlier) fails.before (subst Faultless (sym walked.all) walked.faultless) fails.faultless;
+            faultless =
+                all-append (IsFaultless step) (all_of walked.earlier) fails.before
+                (subst Faultless (sym walked.all) walked.faultless) fails.faultless;
             few = omega (
               arith,
               walked.few,
@@ -99,20 +102,24 @@ module _ (step : Step) (image : Image) (entry : ℕ) where
         ∙ ap (λ cs. cs ++ (last ++ [])) walked.all
         ∙ ap (λ cs. before ++ cs) (append-nil last)
 
-    module _ (next : List Configuration) (faultless : AllByRecursion (IsFaultless step) last) (is : AreNext step configuration_cmp before last next) where
+    module _ (next : List Configuration) (faultless : AllByRecursion (IsFaultless step) last)
+        (is : AreNext step configuration_cmp before last next) where
       -- the layers with the next one
       more_layers : AreLayers step entry ((walked.earlier ++ last ∷ []) ++ next ∷ [])
       more_layers =
-          layers_more step (start_of entry) configuration_cmp 0 (length walked.earlier + 1) (walked.earlier ++ last ∷ []) next
+          layers_more step (start_of entry) configuration_cmp 0 (length walked.earlier + 1)
+          (walked.earlier ++ last ∷ []) next
           (omega (arith, length_push walked.earlier last)) walked.are_layers
-          (next_layer step (start_of entry) configuration_cmp (length walked.earlier) before last next walked.searched is)
+          (next_layer step (start_of entry) configuration_cmp (length walked.earlier) before last next walked.searched
+          is)
 
       -- no configuration before the next layer has a fault
       all_faultless : AllByRecursion (IsFaultless step) (before ++ last)
       all_faultless = all-append (IsFaultless step) before last walked.faultless faultless
 
       -- with the next layer the limit is passed
-      pub too_many : fetch_limit < length ((before ++ last) ++ next) → HasTooMany step image entry (TooManyFetches fetch_limit)
+      pub too_many : fetch_limit < length ((before ++ last) ++ next)
+          → HasTooMany step image entry (TooManyFetches fetch_limit)
       too_many many =
           let Faultless : List Configuration → Type 0 = λ cs. AllByRecursion (IsFaultless step) cs in (
             walked.earlier ++ last ∷ [],
@@ -135,15 +142,19 @@ module _ (step : Step) (image : Image) (entry : ℕ) where
 
       -- a configuration of the next layer follows one of the last
       next_follow_smaller : (m : ℕ) → length (before ++ last) ≤ m → m < length ((before ++ last) ++ next)
-          → (n : ℕ) × (n < m) × IsSuccessor step (numbered ((before ++ last) ++ next) n) (numbered ((before ++ last) ++ next) m)
+          → (n : ℕ) × (n < m)
+          × IsSuccessor step (numbered ((before ++ last) ++ next) n) (numbered ((before ++ last) ++ next) m)
       next_follow_smaller m past below =
           let k : ℕ = m - length (before ++ last) in
           let same = get_or-append_right (before ++ last) next (length (before ++ last)) m (start_of 0) refl past in
-          let from = is.follow (numbered next k) (Contains-get_or next k (start_of 0) (omega (arith, length-append (before ++ last) next))) in
+          let from =
+          is.follow (numbered next k)
+          (Contains-get_or next k (start_of 0) (omega (arith, length-append (before ++ last) next))) in
           let n = front-number (before ++ last) next from.0 (Contains-append_right before last from.0 from.1) in (
             n.0,
             omega (arith, n.1),
-            same-successor step from.0 (numbered next k) (numbered ((before ++ last) ++ next) n.0) (numbered ((before ++ last) ++ next) m) n.2 same from.2,
+            same-successor step from.0 (numbered next k) (numbered ((before ++ last) ++ next) n.0)
+                (numbered ((before ++ last) ++ next) m) n.2 same from.2,
           )
 
       -- each configuration but the first follows one with a smaller number
@@ -154,15 +165,18 @@ module _ (step : Step) (image : Image) (entry : ℕ) where
           let old = walked.follow_smaller m one front in (
             old.0,
             old.1,
-            same-successor step (numbered (before ++ last) old.0) (numbered (before ++ last) m) (numbered ((before ++ last) ++ next) old.0)
-                (numbered ((before ++ last) ++ next) m) (numbered-front (before ++ last) next old.0 (omega (arith, old.1)))
+            same-successor step (numbered (before ++ last) old.0) (numbered (before ++ last) m)
+                (numbered ((before ++ last) ++ next) old.0)
+                (numbered ((before ++ last) ++ next) m)
+                (numbered-front (before ++ last) next old.0 (omega (arith, old.1)))
                 (numbered-front (before ++ last) next m front) old.2,
           ))
           (λ (past : length (before ++ last) ≤ m). next_follow_smaller m past below)
           (cases_lt m (length (before ++ last)))
 
       -- else the search goes on with it
-      pub walked_more : length ((before ++ last) ++ next) ≤ fetch_limit → IsWalked step image entry (before ++ last) next
+      pub walked_more : length ((before ++ last) ++ next) ≤ fetch_limit
+          → IsWalked step image entry (before ++ last) next
       walked_more few = record {
         earlier = walked.earlier ++ last ∷ [];
         all = all_more;
@@ -172,7 +186,8 @@ module _ (step : Step) (image : Image) (entry : ℕ) where
         searched =
             let P : ℕ → Type 0 = λ n. IsSearched step (start_of entry) n (before ++ last) next in
             subst P (sym (length_push walked.earlier last))
-            (searched_more step (start_of entry) configuration_cmp (length walked.earlier) before last next walked.searched is);
+            (searched_more step (start_of entry) configuration_cmp (length walked.earlier) before last next
+            walked.searched is);
         some = omega (arith, walked.some, length-append (before ++ last) next);
         follow_smaller = follow_more;
         begins = numbered-front (before ++ last) next 0 walked.some ∙ walked.begins;

@@ -29,4 +29,5 @@ pub record IsGraphOf (step : Step) (entry : ℕ) (configurations : List Configur
   pub begins : numbered configurations 0 ≡ start_of entry
   pub each : AllZip (IsNodeOf step configurations) configurations nodes
   pub graph : IsGraph nodes
-  pub apart : (n m : ℕ) → n < length configurations → m < length configurations → numbered configurations n ≡ numbered configurations m → n ≡ m
+  pub apart : (n m : ℕ) → n < length configurations → m < length configurations
+      → numbered configurations n ≡ numbered configurations m → n ≡ m

@@ -10,25 +10,25 @@ use Rattle.flow_spec.specs.Transfer.{is_good_target}
 use Rattle.flow_spec.specs.Acceptance.{Step, AreLayers, IsFaultless, fetch_limit}
 use Rattle.flow_spec.specs.Successors.{successors}
 use Rattle.flow_spec.specs.Configuration.{Configuration, start_of}
-use Rattle.std.specs.BTreeMap.{BTreeMap}
 use Rattle.frame_stacks.specs.declared.stacks.StackCell.{StackCell}
 use Rattle.frame_stacks.specs.Stacks.{AreCells}
 use Rattle.call_expand.specs.Expansion.{numbered}
-use Rattle.call_expand.specs.Place.{configurations_at, ArePlaces, IsEdge}
-use Rattle.call_expand.specs.Numbers.{AreNumbers}
-use Rattle.call_expand.specs.declared.place.Place.{Place}
-use Rattle.call_expand.specs.declared.place.Edges.{Edges}
+use Rattle.call_expand.specs.Point.{configurations_at, ArePoints, IsEdge}
+use Rattle.call_expand.specs.declared.point.Point.{Point}
+use Rattle.call_expand.specs.declared.point.Edges.{Edges}
 use Rattle.call_expand.specs.declared.search.Search.{Search}
 
 -- the states of layers 0 to n, those of the last layer last; each successor of one before is among them
-pub record IsSearched {C F : Type 0} (step : C → Result (List C) F) (start : C) (n : ℕ) (before last : List C) : Type 0 where
+pub record IsSearched {C F : Type 0} (step : C → Result (List C) F) (start : C) (n : ℕ)
+    (before last : List C) : Type 0 where
   pub reached : (c : C) → Contains (before ++ last) c → (m : ℕ) × (m ≤ n) × IsReachedIn step start m c
   pub last_reached : (c : C) → Contains last c → IsReachedIn step start n c
   pub covered : (m : ℕ) (c : C) → m ≤ n → IsReachedIn step start m c → Contains (before ++ last) c
   pub closed : (b c : C) → Contains before b → IsSuccessor step b c → Contains (before ++ last) c
 
 -- the successors of the last layer that aren't among the states so far, in order
-pub record AreNext {C F : Type 0} (step : C → Result (List C) F) (order : C → C → Ordering) (before last next : List C) : Type 0 where
+pub record AreNext {C F : Type 0} (step : C → Result (List C) F) (order : C → C → Ordering)
+    (before last next : List C) : Type 0 where
   pub sorted : IsStrictlySortedBy order next
   pub follow : (c : C) → Contains next c → (b : C) × Contains last b × IsSuccessor step b c
   pub unseen : (c : C) → Contains next c → Contains (before ++ last) c → ⊥
@@ -53,16 +53,17 @@ pub record IsWalked (step : Step) (image : Image) (entry : ℕ) (before last : L
   pub few : length (before ++ last) ≤ fetch_limit
 
 -- the search is at the layer that begins with this number
-pub record IsAt (image : Image) (entry : ℕ) (cells : List StackCell) (places : List Place) (numbers : BTreeMap (ℕ × ℕ) ℕ) (edges : List Edges) (start : ℕ) : Type 0 where
+pub record IsAt (image : Image) (entry : ℕ) (cells : List StackCell) (points : List Point) (edges : List Edges)
+    (start : ℕ) : Type 0 where
   pub are_cells : AreCells cells
-  pub are_places : ArePlaces image cells places
-  pub are_numbers : AreNumbers places numbers
-  pub within : start ≤ length places
-  pub each : AllZip (IsEdge (successors image entry) image cells) (take start places) edges
+  pub are_points : ArePoints image cells points
+  pub within : start ≤ length points
+  pub each : AllZip (IsEdge (successors image entry) image cells) (take start points) edges
   pub room : length cells ≤ start
-  pub walked : IsWalked (successors image entry) image entry (configurations_at cells (take start places)) (configurations_at cells (drop start places))
+  pub walked : IsWalked (successors image entry) image entry (configurations_at cells (take start points))
+      (configurations_at cells (drop start points))
 
--- the same, of all that a search has
+-- the search has its cells, points and edges at the layer that begins with this number
 abbrev pub IsSearchAt : Image → ℕ → Search → ℕ → Type 0
 IsSearchAt image entry search start =
-    IsAt image entry search.stacks search.known.places.items search.known.numbers search.edges.items start
+    IsAt image entry search.stacks search.known search.edges.items start

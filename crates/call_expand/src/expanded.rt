@@ -3,9 +3,9 @@ ghost use Rattle.flow_spec.specs.Successors.{newest};
 ghost use Rattle.path_model.specs.Graph.{IsGraph};
 ghost use Rattle.frame_stacks.specs.Stacks.{AreCells, frames_of};
 ghost use Rattle.call_expand.specs.Expansion.{numbered};
-ghost use Rattle.call_expand.specs.Place.{configurations_at, AreExpanded};
+ghost use Rattle.call_expand.specs.Point.{configurations_at, AreExpanded};
 
-use crate::place::Place;
+use crate::point::Point;
 use flow_spec::Frame;
 use frame_stacks::{StackCell, Stacks};
 use path_model::Graph;
@@ -24,36 +24,36 @@ pub struct Config {
 #[derive(Drop)]
 pub struct Expanded {
     graph: Graph,
-    places: Vec<Place>,
+    points: Vec<Point>,
     stacks: Stacks,
 }
 
 impl Model for Expanded {
     ghost use Rattle.std.specs.Prelude.{map};
     ghost use Rattle.call_expand.specs.Expansion.{Expansion};
-    ghost use Rattle.call_expand.specs.Place.{configurations_at, AreExpanded};
+    ghost use Rattle.call_expand.specs.Point.{configurations_at, AreExpanded};
 
     ghost Value = { Expansion };
 
     ghost view = { λ e. record {
-      configurations = configurations_at e.stacks e.places.items;
+      configurations = configurations_at e.stacks e.points.items;
       nodes = e.graph;
       cells = e.stacks;
-      stacks = map (λ place. place.stack) e.places.items;
+      stacks = map (λ point. point.stack) e.points.items;
     } };
 
-    ghost invariant = { λ e. AreExpanded e.stacks e.places.items e.graph };
+    ghost invariant = { λ e. AreExpanded e.stacks e.points.items e.graph };
 }
 
 impl Expanded {
-    pub(crate) fn new(graph: Graph, places: Vec<Place>, stacks: Stacks) -> Self
-        requires { AreExpanded stacks places.items graph }
-        ensures configurations { result.configurations ≡ configurations_at stacks places.items }
+    pub(crate) fn new(graph: Graph, points: Vec<Point>, stacks: Stacks) -> Self
+        requires { AreExpanded stacks points.items graph }
+        ensures configurations { result.configurations ≡ configurations_at stacks points.items }
         ensures nodes { result.nodes ≡ graph }
     {
         Expanded {
             graph,
-            places,
+            points,
             stacks,
         }
     }
@@ -76,11 +76,11 @@ impl Expanded {
         ensures stack { slice_get self.now.stacks node ≡ Some result.stack }
         ensures known { result.stack ≤ length self.now.cells }
     {
-        let place = self.places[node as usize];
+        let point = self.points[node as usize];
         Config {
-            at: place.at,
-            stack: place.stack,
-            depth: self.stacks.depth(place.stack),
+            at: point.at,
+            stack: point.stack,
+            depth: self.stacks.depth(point.stack),
         }
     }
 
@@ -90,12 +90,12 @@ impl Expanded {
         requires { node < length self.now.nodes }
         ensures { result ≡ newest (numbered self.now.configurations node).frames }
     {
-        let place = self.places[node as usize];
-        self.stacks.top(place.stack)
+        let point = self.points[node as usize];
+        self.stacks.top(point.stack)
     }
 
-    /// The cells of the stacks: that at place k puts its frame on the stack `below`, and makes stack k + 1. Equal lists
-    /// of open calls have equal stack numbers.
+    /// The cells of the stacks. The cell at index k puts its frame on the stack `below`, and makes stack k + 1. Equal
+    /// lists of open calls have equal stack numbers.
     pub fn cells(&self) -> &[StackCell]
         ensures same { result.now ≡ self.now.cells }
         ensures cells { AreCells self.now.cells }

@@ -1,44 +1,49 @@
 ghost use Rattle.std.specs.Prelude.{◌≡◌, ◌⊎◌, ◌+◌, ◌-◌, ◌^◌, ◌<◌, ◌≤◌, [], ◌∷◌, ◌++◌, length, drop, IfOk, IfErr, OnOk};
 ghost use Rattle.flow_spec.specs.Successors.{successors, leads_to};
 ghost use Rattle.frame_stacks.specs.Stacks.{frames_of};
-ghost use Rattle.call_expand.specs.Place.{configuration_at, configurations_at, ArePlaces, IsPlace, GoesOn, IsEdge, FailsAt, Opens, AreAllFollowed};
+ghost use Rattle.call_expand.specs.Point.{configuration_at, configurations_at, ArePoints, IsPoint, GoesOn, IsEdge, FailsAt, Opens, AreAllFollowed};
 
-use crate::place::{Edges, Place};
+use crate::point::{Edges, Point};
 use elf_image::Image;
 use flow_graph::next_of;
 use flow_spec::{FlowFault, Frame, Next};
 use frame_stacks::Stacks;
 use std::alloc::AllocError;
 
-// The places that control goes to, or the fault of the configuration.
-fn follow(image: &Image, entry: u32, stacks: &mut Stacks, place: Place) -> Result<Edges, FlowFault>
-    requires place { IsPlace image.now stacks.old place }
+// Where control goes from a point, or the fault of its configuration.
+fn edges_of(
+    image: &Image,
+    entry: u32,
+    stacks: &mut Stacks,
+    point: Point,
+) -> Result<Edges, FlowFault>
+    requires point { IsPoint image.now stacks.old point }
     requires room { length stacks.old < 2 ^ 32 - 1 }
     ensures edge { IfOk result (λ edges.
-        IsEdge (successors image.now entry) image.now stacks.new place edges) }
+        IsEdge (successors image.now entry) image.now stacks.new point edges) }
     ensures goes_on { OnOk result (GoesOn stacks.old stacks.new) }
     ensures one { OnOk result (length stacks.new ≤ length stacks.old + 1) }
     ensures fault { IfErr result (λ fault. (fault ≡ FlowFault.OutOfMemory)
-        ⊎ (successors image.now entry (configuration_at stacks.old place) ≡ Err fault)) }
+        ⊎ (successors image.now entry (configuration_at stacks.old point) ≡ Err fault)) }
 {
-    match next_of(image, place.at, stacks.top(place.stack))? {
+    match next_of(image, point.at, stacks.top(point.stack))? {
         Next::Ends => Ok(Edges {
             first: None,
             second: None,
         }),
-        Next::Go(target) => Ok(one(target, place.stack)),
+        Next::Go(target) => Ok(one(target, point.stack)),
         Next::Fork(next, target) => Ok(Edges {
-            first: Some(Place {
+            first: Some(Point {
                 at: next,
-                stack: place.stack,
+                stack: point.stack,
             }),
-            second: Some(Place {
+            second: Some(Point {
                 at: target,
-                stack: place.stack,
+                stack: point.stack,
             }),
         }),
-        Next::Enter { target, frame } => enter(entry, stacks, place, target, frame),
-        Next::Back(target) => Ok(one(target, stacks.below(place.stack))),
+        Next::Enter { target, frame } => enter(entry, stacks, point, target, frame),
+        Next::Back(target) => Ok(one(target, stacks.below(point.stack))),
     }
 }
 
@@ -46,7 +51,7 @@ fn one(at: u32, stack: u32) -> Edges
     ensures { result ≡ record { first = Some (record { at = at; stack = stack }); second = None } }
 {
     Edges {
-        first: Some(Place { at, stack }),
+        first: Some(Point { at, stack }),
         second: None,
     }
 }
@@ -54,64 +59,64 @@ fn one(at: u32, stack: u32) -> Edges
 fn enter(
     entry: u32,
     stacks: &mut Stacks,
-    place: Place,
+    point: Point,
     target: u32,
     frame: Frame,
 ) -> Result<Edges, FlowFault>
-    requires known { place.stack ≤ length stacks.old }
+    requires known { point.stack ≤ length stacks.old }
     requires room { length stacks.old < 2 ^ 32 - 1 }
-    ensures goes { IfOk result (λ edges. Opens entry stacks.old stacks.new place target frame edges) }
+    ensures goes { IfOk result (λ edges. Opens entry stacks.old stacks.new point target frame edges) }
     ensures goes_on { OnOk result (GoesOn stacks.old stacks.new) }
     ensures one { OnOk result (length stacks.new ≤ length stacks.old + 1) }
     ensures fault { IfErr result (λ fault. (fault ≡ FlowFault.OutOfMemory)
-        ⊎ (leads_to entry (frames_of stacks.old place.stack) place.at (Next.Enter target frame) ≡ Err fault)) }
+        ⊎ (leads_to entry (frames_of stacks.old point.stack) point.at (Next.Enter target frame) ≡ Err fault)) }
 {
-    if target == entry || stacks.has_callee(place.stack, target) {
-        return Err(FlowFault::Recursion { at: place.at });
+    if target == entry || stacks.has_callee(point.stack, target) {
+        return Err(FlowFault::Recursion { at: point.at });
     }
-    Ok(one(target, stacks.push(place.stack, frame)?))
+    Ok(one(target, stacks.push(point.stack, frame)?))
 }
 
-// Follows each place, and adds its edges behind the others.
+// Follows each point, and adds its edges after the others.
 fn follow_all(
     image: &Image,
     entry: u32,
     stacks: &mut Stacks,
-    places: &[Place],
+    points: &[Point],
     edges: &mut Vec<Edges>,
 ) -> Result<(), FlowFault>
-    requires places { ArePlaces image.now stacks.old places.now }
-    requires room { length stacks.old + length places.now < 2 ^ 32 - 1 }
-    ensures followed { OnOk result (AreAllFollowed (successors image.now entry) image.now stacks.old stacks.new places.now
+    requires points { ArePoints image.now stacks.old points.now }
+    requires room { length stacks.old + length points.now < 2 ^ 32 - 1 }
+    ensures followed { OnOk result (AreAllFollowed (successors image.now entry) image.now stacks.old stacks.new points.now
         edges.old.items edges.new.items) }
     ensures fault { IfErr result (λ fault. (fault ≡ FlowFault.OutOfMemory)
-        ⊎ FailsAt (successors image.now entry) (configurations_at stacks.old places.now) fault) }
+        ⊎ FailsAt (successors image.now entry) (configurations_at stacks.old points.now) fault) }
 {
-    for place in places {
-        let next = follow(image, entry, stacks, *place)?;
+    for point in points {
+        let next = edges_of(image, entry, stacks, *point)?;
         push(edges, next)?;
     }
     Ok(())
 }
 
-// Follows each place but the first so many.
+// Follows the points from index `start` on.
 pub(crate) fn follow_from(
     image: &Image,
     entry: u32,
     stacks: &mut Stacks,
-    places: &[Place],
+    points: &[Point],
     start: usize,
     edges: &mut Vec<Edges>,
 ) -> Result<(), FlowFault>
-    requires within { start ≤ length places.now }
-    requires places { ArePlaces image.now stacks.old (drop start places.now) }
-    requires room { length stacks.old + length places.now < 2 ^ 32 - 1 }
+    requires within { start ≤ length points.now }
+    requires points { ArePoints image.now stacks.old (drop start points.now) }
+    requires room { length stacks.old + length points.now < 2 ^ 32 - 1 }
     ensures followed { OnOk result (AreAllFollowed (successors image.now entry) image.now stacks.old stacks.new
-        (drop start places.now) edges.old.items edges.new.items) }
+        (drop start points.now) edges.old.items edges.new.items) }
     ensures fault { IfErr result (λ fault. (fault ≡ FlowFault.OutOfMemory)
-        ⊎ FailsAt (successors image.now entry) (configurations_at stacks.old (drop start places.now)) fault) }
+        ⊎ FailsAt (successors image.now entry) (configurations_at stacks.old (drop start points.now)) fault) }
 {
-    follow_all(image, entry, stacks, &places[start..], edges)
+    follow_all(image, entry, stacks, &points[start..], edges)
 }
 
 fn push(edges: &mut Vec<Edges>, next: Edges) -> Result<(), AllocError>

@@ -10,7 +10,7 @@ mod expanded;
 mod follow;
 mod known;
 mod laws;
-mod place;
+mod point;
 mod search;
 
 pub use elf_image::Image;

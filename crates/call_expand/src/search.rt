@@ -10,14 +10,14 @@ ghost use Rattle.flow_spec.specs.Transfer.{is_good_target};
 ghost use Rattle.flow_spec.specs.Acceptance.{IsAccepted, IsRefused};
 ghost use Rattle.frame_stacks.specs.Stacks.{AreCells, frames_of};
 ghost use Rattle.call_expand.specs.Expansion.{IsGraphOf};
-ghost use Rattle.call_expand.specs.Place.{place_cmp, places_of};
-ghost use Rattle.call_expand.specs.Numbers.{AreNumbers, AreNodesFor, IsNodeFor, HasNumber, AreAmong, AreNumbered};
+ghost use Rattle.call_expand.specs.Point.{point_cmp, points_of};
+ghost use Rattle.call_expand.specs.Numbers.{AreNodesFor, IsNodeFor, HasNumber, AreAmong, AreNumbered};
 ghost use Rattle.call_expand.specs.Search.{IsSearchAt};
 
 use crate::Expanded;
 use crate::follow::follow_from;
 use crate::known::Known;
-use crate::place::{Edges, Place};
+use crate::point::{Edges, Point};
 use elf_image::Image;
 use flow_graph::is_target;
 use flow_spec::FlowFault;
@@ -41,7 +41,7 @@ struct Search {
 ///
 /// The configurations are numbered by layer, then address, then frames. The errors are those of a refused program: first
 /// `BadEntry`; then, layer by layer, the fault of the first faulty configuration of the layer, else `TooManyFetches`
-/// where this layer, those before it and the next have more than 65,536 configurations together. Besides, want of memory.
+/// where this layer, those before it and the next have more than 65,536 configurations together. Besides these, `OutOfMemory`.
 pub fn expand(alloc: Global, image: &Image, entry: u32) -> Result<Expanded, FlowFault>
     ensures accepted { IfOk result (λ expanded. (layers : List (List Configuration))
         × IsAccepted (successors image.now entry) image.now entry layers
@@ -58,8 +58,8 @@ pub fn expand(alloc: Global, image: &Image, entry: u32) -> Result<Expanded, Flow
     }
     let mut search = begin(alloc, image, entry)?;
     let mut start = 0;
-    while start < search.known.places.len() {
-        let end = search.known.places.len();
+    while start < search.known.points().len() {
+        let end = search.known.points().len();
         next_layer(alloc, image, entry, &mut search, start)?;
         start = end;
     }
@@ -71,7 +71,7 @@ fn begin(alloc: Global, image: &Image, entry: u32) -> Result<Search, AllocError>
     ensures { IfOk result (λ search. IsSearchAt image.now entry search 0) }
 {
     let mut known = Known::empty(alloc);
-    known.add(Place {
+    known.add(Point {
         at: entry,
         stack: 0,
     })?;
@@ -91,8 +91,8 @@ fn next_layer(
     start: usize,
 ) -> Result<(), FlowFault>
     requires at { IsSearchAt image.now entry search.old start }
-    requires some { start < length search.old.known.places.items }
-    ensures at { OnOk result (IsSearchAt image.now entry search.new (length search.old.known.places.items)) }
+    requires some { start < length search.old.known }
+    ensures at { OnOk result (IsSearchAt image.now entry search.new (length search.old.known)) }
     ensures refused { IfErr result (λ fault. (fault ≡ FlowFault.OutOfMemory)
         ⊎ IsRefused (successors image.now entry) image.now entry fault) }
 {
@@ -101,15 +101,15 @@ fn next_layer(
         known,
         edges,
     } = search;
-    follow_from(image, entry, stacks, &known.places, start, edges)?;
+    follow_from(image, entry, stacks, known.points(), start, edges)?;
     number_from(alloc, stacks, edges, start, known)?;
-    if known.places.len() > LIMIT as usize {
+    if known.points().len() > LIMIT as usize {
         return Err(FlowFault::TooManyFetches { limit: LIMIT });
     }
     Ok(())
 }
 
-// Numbers the new ones of the places that all edges but the first so many lead to.
+// Numbers the new points that the edges from index `start` on lead to.
 fn number_from(
     alloc: Global,
     stacks: &Stacks,
@@ -118,10 +118,8 @@ fn number_from(
     known: &mut Known,
 ) -> Result<(), AllocError>
     requires within { start ≤ length edges.now }
-    requires numbers { AreNumbers known.old.places.items known.old.numbers }
-    requires room { length known.old.places.items + 2 * length edges.now < 2 ^ 32 }
-    ensures numbered { OnOk result (AreNumbered stacks.now (drop start edges.now) known.old.places.items known.new.places.items) }
-    ensures numbers { OnOk result (AreNumbers known.new.places.items known.new.numbers) }
+    requires room { length known.old + 2 * length edges.now < 2 ^ 32 }
+    ensures numbered { OnOk result (AreNumbered stacks.now (drop start edges.now) known.old known.new) }
     ensures cells { OnOk result (AreCells stacks.now) }
 {
     let mut found = found_from(alloc, edges, start)?;
@@ -129,16 +127,16 @@ fn number_from(
     known.add_new(&found)
 }
 
-// The places that all edges but the first so many lead to.
-fn found_from(alloc: Global, edges: &[Edges], start: usize) -> Result<Vec<Place>, AllocError>
+// The points that the edges from index `start` on lead to.
+fn found_from(alloc: Global, edges: &[Edges], start: usize) -> Result<Vec<Point>, AllocError>
     requires { start ≤ length edges.now }
-    ensures { IfOk result (λ found. found.items ≡ flat_map places_of (drop start edges.now)) }
+    ensures { IfOk result (λ found. found.items ≡ flat_map points_of (drop start edges.now)) }
 {
     found_by(alloc, &edges[start..])
 }
 
-fn found_by(alloc: Global, edges: &[Edges]) -> Result<Vec<Place>, AllocError>
-    ensures { IfOk result (λ found. found.items ≡ flat_map places_of edges.now) }
+fn found_by(alloc: Global, edges: &[Edges]) -> Result<Vec<Point>, AllocError>
+    ensures { IfOk result (λ found. found.items ≡ flat_map points_of edges.now) }
 {
     let mut found = Vec::new(alloc);
     for edge in edges {
@@ -148,28 +146,28 @@ fn found_by(alloc: Global, edges: &[Edges]) -> Result<Vec<Place>, AllocError>
     Ok(found)
 }
 
-fn push_some(found: &mut Vec<Place>, place: Option<Place>) -> Result<(), AllocError>
-    ensures { OnOk result (found.new.items ≡ found.old.items ++ option_to_list place) }
+fn push_some(found: &mut Vec<Point>, point: Option<Point>) -> Result<(), AllocError>
+    ensures { OnOk result (found.new.items ≡ found.old.items ++ option_to_list point) }
 {
-    match place {
-        Some(place) => Ok(found.push(place)?),
+    match point {
+        Some(point) => Ok(found.push(point)?),
         None => Ok(()),
     }
 }
 
 // By address, then by frames.
-fn sort(stacks: &Stacks, found: &mut Vec<Place>)
+fn sort(stacks: &Stacks, found: &mut Vec<Point>)
     ensures same { IsPermutation found.old.items found.new.items }
-    ensures sorted { IsSorted (place_cmp stacks.now) found.new.items }
+    ensures sorted { IsSorted (point_cmp stacks.now) found.new.items }
     ensures cells { AreCells stacks.now }
 {
-    // What the cells keep is what makes the order tell any two places apart.
+    // What the cells keep is what makes the order tell any two points apart.
     let _cells = stacks.cells();
     found.sort_unstable_by(|a, b| compare(stacks, *a, *b));
 }
 
-fn compare(stacks: &Stacks, a: Place, b: Place) -> Ordering
-    ensures { result ≡ place_cmp stacks.now a b }
+fn compare(stacks: &Stacks, a: Point, b: Point) -> Ordering
+    ensures { result ≡ point_cmp stacks.now a b }
 {
     match a.at.cmp(&b.at) {
         Ordering::Equal => stacks.compare(stack_of(stacks, a), stack_of(stacks, b)),
@@ -177,20 +175,20 @@ fn compare(stacks: &Stacks, a: Place, b: Place) -> Ordering
     }
 }
 
-// The place's stack, or the one without frames where there is no such stack.
-fn stack_of(stacks: &Stacks, place: Place) -> u32
+// The point's stack, or the one without frames where there is no such stack.
+fn stack_of(stacks: &Stacks, point: Point) -> u32
     ensures known { result ≤ length stacks.now }
-    ensures frames { frames_of stacks.now result ≡ frames_of stacks.now place.stack }
+    ensures frames { frames_of stacks.now result ≡ frames_of stacks.now point.stack }
 {
-    if place.stack as usize <= stacks.cells().len() {
-        place.stack
+    if point.stack as usize <= stacks.cells().len() {
+        point.stack
     } else {
         0
     }
 }
 
 fn finish(alloc: Global, image: &Image, entry: u32, search: Search) -> Result<Expanded, AllocError>
-    requires { IsSearchAt image.now entry search (length search.known.places.items) }
+    requires { IsSearchAt image.now entry search (length search.known) }
     ensures accepted { IfOk result (λ expanded. (layers : List (List Configuration))
         × IsAccepted (successors image.now entry) image.now entry layers
         × (expanded.configurations ≡ all_of layers)) }
@@ -204,40 +202,38 @@ fn finish(alloc: Global, image: &Image, entry: u32, search: Search) -> Result<Ex
         edges,
     } = search;
     let nodes = nodes_of(alloc, &known, &edges)?;
+    let points = known.into_points();
     let graph = Graph::new(nodes).unwrap();
-    Ok(Expanded::new(graph, known.places, stacks))
+    Ok(Expanded::new(graph, points, stacks))
 }
 
 fn nodes_of(alloc: Global, known: &Known, edges: &[Edges]) -> Result<Vec<Node>, AllocError>
-    requires numbers { AreNumbers known.now.places.items known.now.numbers }
-    requires each { length edges.now ≡ length known.now.places.items }
-    requires among { AreAmong known.now.places.items (flat_map places_of edges.now) }
-    ensures { IfOk result (λ nodes.
-        AreNodesFor known.now.places.items known.now.places.items edges.now nodes.items) }
+    requires each { length edges.now ≡ length known.now }
+    requires among { AreAmong known.now (flat_map points_of edges.now) }
+    ensures { IfOk result (λ nodes. AreNodesFor known.now known.now edges.now nodes.items) }
 {
+    let points = known.points();
     let mut nodes = Vec::with_capacity(alloc, edges.len())?;
     for index in 0..edges.len() {
-        nodes.push(node_of(known, known.places[index], edges[index]))?;
+        nodes.push(node_of(known, points[index], edges[index]))?;
     }
     Ok(nodes)
 }
 
-fn node_of(known: &Known, place: Place, edges: Edges) -> Node
-    requires numbers { AreNumbers known.now.places.items known.now.numbers }
-    requires among { AreAmong known.now.places.items (places_of edges) }
-    ensures { IsNodeFor known.now.places.items place edges result }
+fn node_of(known: &Known, point: Point, edges: Edges) -> Node
+    requires among { AreAmong known.now (points_of edges) }
+    ensures { IsNodeFor known.now point edges result }
 {
     Node {
-        at: place.at,
+        at: point.at,
         first: number_of(known, edges.first),
         second: number_of(known, edges.second),
     }
 }
 
-fn number_of(known: &Known, place: Option<Place>) -> Option<u32>
-    requires numbers { AreNumbers known.now.places.items known.now.numbers }
-    requires among { AreAmong known.now.places.items (option_to_list place) }
-    ensures { HasNumber known.now.places.items place result }
+fn number_of(known: &Known, point: Option<Point>) -> Option<u32>
+    requires among { AreAmong known.now (option_to_list point) }
+    ensures { HasNumber known.now point result }
 {
-    known.number_of(place?)
+    known.number_of(point?)
 }

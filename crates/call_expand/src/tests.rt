@@ -230,11 +230,11 @@ fn equal_lists_of_open_calls_have_one_stack(rt: HostRuntime) -> Result<(), Fail>
     Ok(())
 }
 
-// The two ways meet again behind the branch, where jumps lead to and fro.
+// The two ways meet again after the branch, where jumps lead to and fro.
 #[test]
 fn branches_and_jumps_are_numbered_by_layer_and_address(rt: HostRuntime) -> Result<(), Fail> {
     let mut words = vec![in rt.alloc(); PLAIN; 66]?;
-    for (place, word) in [
+    for (index, word) in [
         (0, 0x0080006f),
         (1, STOP),
         (2, 0x06050c63),
@@ -245,7 +245,7 @@ fn branches_and_jumps_are_numbered_by_layer_and_address(rt: HostRuntime) -> Resu
         (64, 0xf11ff06f),
         (65, 0xf01ff06f),
     ] {
-        if let Some(slot) = words.get_mut(place) {
+        if let Some(slot) = words.get_mut(index) {
             *slot = word;
         }
     }

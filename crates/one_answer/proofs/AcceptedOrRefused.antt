@@ -14,7 +14,7 @@ use Rattle.flow_spec.specs.Transfer.{is_good_target}
 use Rattle.flow_spec.proofs.Ordered.{configurations_total, equal-same}
 use Rattle.flow_spec.specs.declared.fault.FlowFault.{FlowFault}
 use Rattle.flow_spec.specs.declared.fault.FlowFault.TheVariants.{BadEntry, TooManyFetches}
-use Rattle.call_expand.specs.Place.{FailsAt}
+use Rattle.call_expand.specs.Point.{FailsAt}
 use Rattle.call_expand.specs.Search.{AreNext, IsWalked}
 use Rattle.call_expand.proofs.Walked.{walked_begin, accepted, faulty, too_many, walked_more}
 use Rattle.one_answer.proofs.FlatMapped.{has-flat_map, from-flat_map}

@@ -1,10 +1,14 @@
-use Rattle.std.proofs.Common.{arith}
-use Rattle.call_expand.proofs.Further.{few-places}
+use Rattle.std.proofs.Common.{ap, length, arith}
+use Rattle.call_expand.proofs.Further.{few-points}
 use Rattle.call_expand.proofs.search.expand.Goals as goal
 
 pub loop-start-smaller : goal.loop-start-smaller
 loop-start-smaller c =
-    let few =
-    few-places c.args.image.now c.args.entry c.loop-start.search.stacks c.loop-start.search.known.places.items c.loop-start.search.known.numbers
-    c.loop-start.search.edges.items c.loop-start.start c.loop-start.invariant in
-    omega (arith, few, c.loop-start.invariant.within, c.loop-start-test.true, c.len-end.ensures, c.loop-start.search.known.places.ok)
+    omega (
+      arith,
+      few-points c.loop-start.invariant,
+      ap length c.points.ensures,
+      ap length c.points-end.ensures,
+      c.loop-start.invariant.within,
+      c.loop-start-test.true,
+    )

@@ -1,13 +1,14 @@
-use Rattle.std.proofs.Common.{◌≡◌, sym, subst, List, length, arith}
-use Rattle.call_expand.specs.declared.place.Place.{Place}
+use Rattle.std.proofs.Common.{sym, ◌∙◌, ap, ◌++◌, ◌∷◌, [], subst, List, length, arith, ◌≡◌}
+use Rattle.call_expand.specs.declared.point.Point.{Point}
 use Rattle.call_expand.specs.Numbers.{AreNumbers}
 use Rattle.call_expand.proofs.Numbered.{numbers-push}
 use Rattle.call_expand.proofs.known.Known.add.Goals as goal
 
-pub returns-clause-numbers : goal.returns-clause-numbers
-returns-clause-numbers c =
-    let P : List Place → Type 0 = λ places. AreNumbers places c.insert.new.self in
-    let number : c.len-number.result ≡ length c.args.self.now.places.items = omega (arith, c.len-number.ensures, c.args.self.now.places.ok) in
-    subst P (sym c.in_ok-push.ensures.items)
-    (numbers-push c.args.self.now.places.items c.args.self.now.numbers c.insert.new.self c.args.place c.len-number.result number c.requires.numbers
-    c.requires.new c.in_ok-insert.ensures.updates)
+pub invariant_of-self-2 : goal.invariant_of-self-2
+invariant_of-self-2 c =
+    let P : List Point → Type 0 = λ points. AreNumbers points c.insert.new.self in
+    let points = c.self.inside.points in
+    let number : c.len-number.result ≡ length points.items = omega (arith, c.len-number.ensures, points.ok) in
+    subst P (sym (c.push_reserved.ensures.items ∙ ap (λ ps. ps ++ c.args.point ∷ []) c.in_ok-reserve.ensures.items))
+    (numbers-push points.items c.self.inside.numbers c.insert.new.self c.args.point c.len-number.result number
+    c.self.invariant (rw c.self.view_is c.requires.new) c.in_ok-insert.ensures.updates)

@@ -1,5 +1,5 @@
 use Rattle.call_expand.proofs.Numbered.{AreAdded}
 use Rattle.call_expand.proofs.known.Known.add_new.Given as goal
 
-abbrev pub invariant-loop-place : goal.invariant-loop-place
-invariant-loop-place l = AreAdded l.initial.self.places.items l.places l.place-index l.self.places.items l.self.numbers
+abbrev pub invariant-loop-point : goal.invariant-loop-point
+invariant-loop-point l = AreAdded l.initial.self l.points l.point-index l.self

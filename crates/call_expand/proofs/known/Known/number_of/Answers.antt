@@ -4,5 +4,6 @@ use Rattle.call_expand.proofs.known.Known.number_of.Goals as goal
 
 pub returns : goal.returns
 returns c =
-    number-found c.args.self.now.places.items c.args.self.now.numbers c.requires c.args.place c.copied.result
-    (c.copied.ensures ∙ c.get.ensures.value)
+    rw (← c.self.view_is)
+    (number-found c.self.inside.points.items c.self.inside.numbers c.self.invariant c.args.point c.copied.result
+    (c.copied.ensures ∙ c.get.ensures.value))
