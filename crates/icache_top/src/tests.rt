@@ -1,5 +1,7 @@
+ghost use Rattle.std.specs.Prelude.{◌<◌};
+
 use crate::{IdleGate, Outcome, Status, run};
-use byte_port::{MemSink, MemSource, Sink, Source, SureSink, SureSource};
+use byte_port::{Failed, MemSink, MemSource, Sink, Source, SureSink, SureSource};
 use elf_image::ElfFault;
 use flow_spec::FlowFault;
 use std::alloc::{AllocError, Global};
@@ -144,6 +146,7 @@ fn the_words_may_say_where_a_program_begins(rt: HostRuntime) -> Result<(), Fail>
     for line in [
         "classify --line 4 --sets 1 --ways 1 --entry 0x10008",
         "classify --entry 0x00010008 --line 4 --sets 1 --ways 1",
+        "classify --line 16 --sets 1 --ways 1 --entry 0x10008",
     ] {
         check(&rt, alloc, line, &words, Status::Done, later)?;
     }
@@ -155,7 +158,7 @@ fn a_bad_entry_is_refused(rt: HostRuntime) -> Result<(), Fail> {
     let alloc = rt.alloc();
     for (line, entry, text) in [
         (
-            "classify --entry 0x10008",
+            "classify --line 16 --sets 1 --ways 1 --entry 0x10008",
             0x10008,
             "icache: bad entry 0x00010008\n",
         ),
@@ -210,37 +213,76 @@ fn a_file_that_is_empty_or_too_big_is_refused(rt: HostRuntime) -> Result<(), Fai
     Ok(())
 }
 
-/// The status of the two words' run over ports of one's own.
+/// The status of a run over ports of one's own.
 fn status_over<S: Source, O: Sink, E: Sink>(
     rt: &(impl Threads + Sync),
     alloc: Global,
+    line: &str,
     source: &mut S,
     out: &mut O,
     err: &mut E,
 ) -> Result<Status, AllocError> {
-    let words = words_of(alloc, SMALL)?;
+    let words = words_of(alloc, line)?;
     Ok(run(rt, alloc, &words, source, out, err, &IdleGate).status)
 }
 
 const TWO: &str = "0x00010000 always-miss\n0x00010004 always-hit\n";
 
+/// A source that counts its reads, those that fail included.
+#[derive(Drop)]
+struct Counting<S> {
+    inner: S,
+    reads: u64,
+}
+
+impl<S: Source> Source for Counting<S> {
+    ghost left = { λ source. S.left source.inner };
+
+    ghost faults = { λ source. S.faults source.inner };
+
+    ghost reads = { λ old result new. S.reads old.inner result new.inner };
+
+    fn read(&mut self, buf: &mut [u8]) -> Result<usize, Failed> {
+        self.reads = self.reads.saturating_add(1);
+        self.inner.read(buf)
+    }
+}
+
+/// Reads the file of two words in pieces, of which it takes `reads` to the end, where the read `call` fails.
+fn check_reads<R: Threads + Sync + Abort>(
+    rt: &R,
+    alloc: Global,
+    piece: usize,
+    reads: u64,
+    call: u64,
+) -> Result<(), AllocError>
+    requires { 0 < piece }
+{
+    let file = wrap(alloc, &[0x13, 0x100073])?;
+    let inner = MemSource::new(file, piece, vec![in alloc; call]?);
+    let mut source = Counting { inner, reads: 0 };
+    let mut out = SureSink::new(alloc, 1000);
+    let mut err = SureSink::new(alloc, 1000);
+    let status = status_over(rt, alloc, SMALL, &mut source, &mut out, &mut err)?;
+    let (wanted, fault, report, made) = if call < reads {
+        (Status::ReadFault, "icache: read fault\n", "", call + 1)
+    } else {
+        (Status::Done, "", TWO, reads)
+    };
+    assert_eq!(rt; status, wanted, "at {call}");
+    assert_eq!(rt; err.sent(), fault.as_bytes());
+    assert_eq!(rt; out.sent(), report.as_bytes());
+    assert_eq!(rt; source.reads, made, "at {call}");
+    Ok(())
+}
+
 #[test]
-fn each_failed_read_is_a_read_fault(rt: HostRuntime) -> Result<(), Fail> {
-    let alloc = rt.alloc();
+fn a_failed_read_is_a_read_fault_and_the_last_read(rt: HostRuntime) -> Result<(), Fail> {
     for call in 0..94 {
-        let file = wrap(alloc, &[0x13, 0x100073])?;
-        let mut source = MemSource::new(file, 1, vec![in alloc; call]?);
-        let mut out = SureSink::new(alloc, 1000);
-        let mut err = SureSink::new(alloc, 1000);
-        let status = status_over(&rt, alloc, &mut source, &mut out, &mut err)?;
-        let (wanted, told, sent) = if call < 93 {
-            (Status::ReadFault, "icache: read fault\n", "")
-        } else {
-            (Status::Done, "", TWO)
-        };
-        assert_eq!(rt; status, wanted, "at {call}");
-        assert_eq!(rt; err.sent(), told.as_bytes());
-        assert_eq!(rt; out.sent(), sent.as_bytes());
+        check_reads(&rt, rt.alloc(), 1, 93, call)?;
+    }
+    for call in 0..7 {
+        check_reads(&rt, rt.alloc(), 20, 6, call)?;
     }
     Ok(())
 }
@@ -252,7 +294,7 @@ fn each_failed_write_is_a_write_fault(rt: HostRuntime) -> Result<(), Fail> {
         let mut source = SureSource::new(wrap(alloc, &[0x13, 0x100073])?, 1000);
         let mut out = MemSink::new(alloc, 1, vec![in alloc; call]?);
         let mut err = SureSink::new(alloc, 1000);
-        let status = status_over(&rt, alloc, &mut source, &mut out, &mut err)?;
+        let status = status_over(&rt, alloc, SMALL, &mut source, &mut out, &mut err)?;
         assert_eq!(rt; status, Status::WriteFault, "at {call}");
         assert_eq!(rt; err.sent(), b"icache: write fault\n".as_slice());
         assert_eq!(rt; out.sent().len() as u64, call);
@@ -264,17 +306,25 @@ fn each_failed_write_is_a_write_fault(rt: HostRuntime) -> Result<(), Fail> {
 #[test]
 fn a_failing_standard_error_changes_no_status(rt: HostRuntime) -> Result<(), Fail> {
     let alloc = rt.alloc();
-    let mut source = SureSource::new(wrap(alloc, &[0x13])?, 1000);
-    let mut out = SureSink::new(alloc, 1000);
-    let mut err = MemSink::new(alloc, 1000, vec![in alloc; 0]?);
-    let status = status_over(&rt, alloc, &mut source, &mut out, &mut err)?;
     let left = FlowFault::BadTarget {
         at: 0x10000,
         target: 0x10004,
     };
-    assert_eq!(rt; status, Status::Flow(left));
-    assert!(rt; err.sent().is_empty());
-    assert!(rt; out.sent().is_empty());
+    // Each with how many reads were made.
+    for (line, wanted, reads) in [
+        (SMALL, Status::Flow(left), 2),
+        ("classify --ways 0", Status::Usage, 0),
+    ] {
+        let inner = SureSource::new(wrap(alloc, &[0x13])?, 1000);
+        let mut source = Counting { inner, reads: 0 };
+        let mut out = SureSink::new(alloc, 1000);
+        let mut err = MemSink::new(alloc, 1000, vec![in alloc; 0]?);
+        let status = status_over(&rt, alloc, line, &mut source, &mut out, &mut err)?;
+        assert_eq!(rt; status, wanted, "{line}");
+        assert_eq!(rt; source.reads, reads, "{line}");
+        assert!(rt; err.sent().is_empty());
+        assert!(rt; out.sent().is_empty());
+    }
     Ok(())
 }
 
@@ -285,7 +335,7 @@ fn the_cut_of_the_bytes_changes_nothing(rt: HostRuntime) -> Result<(), Fail> {
         let mut source = SureSource::new(wrap(alloc, &[0x13, 0x100073])?, piece);
         let mut out = SureSink::new(alloc, piece);
         let mut err = SureSink::new(alloc, piece);
-        let status = status_over(&rt, alloc, &mut source, &mut out, &mut err)?;
+        let status = status_over(&rt, alloc, SMALL, &mut source, &mut out, &mut err)?;
         assert_eq!(rt; status, Status::Done, "in pieces of {piece}");
         assert_eq!(rt; out.sent(), TWO.as_bytes());
         assert!(rt; err.sent().is_empty());

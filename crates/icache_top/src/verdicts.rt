@@ -186,6 +186,19 @@ fn the_greatest_programs_are_classified(rt: HostRuntime) -> Result<(), Fail> {
     Ok(())
 }
 
+// About a second as built, and minutes where `rt try` checks each step.
+#[test]
+fn as_many_configurations_as_the_limit_are_classified(rt: HostRuntime) -> Result<(), Fail> {
+    let alloc = rt.alloc();
+    let file = wrap(alloc, &nops(alloc, 65535, 0x100073)?)?;
+    let line = "classify --line 256 --sets 16 --ways 1";
+    let ran = run_on(&rt, alloc, line, file)?;
+    assert_eq!(rt; ran.outcome.status, Status::Done);
+    assert_eq!(rt; lines_with(ran.out.sent(), " always-miss"), 1024);
+    assert_eq!(rt; lines_with(ran.out.sent(), " always-hit"), 64512);
+    Ok(())
+}
+
 #[test]
 fn greater_programs_are_refused(rt: HostRuntime) -> Result<(), Fail> {
     let alloc = rt.alloc();

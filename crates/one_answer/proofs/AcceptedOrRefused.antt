@@ -11,15 +11,14 @@ use Rattle.flow_spec.specs.Configuration.{Configuration, start_of}
 use Rattle.flow_spec.specs.Order.{configuration_cmp}
 use Rattle.flow_spec.specs.Successors.{Successors}
 use Rattle.flow_spec.specs.Transfer.{is_good_target}
+use Rattle.flow_spec.proofs.Ordered.{configurations_total, equal-same}
 use Rattle.flow_spec.specs.declared.fault.FlowFault.{FlowFault}
 use Rattle.flow_spec.specs.declared.fault.FlowFault.TheVariants.{BadEntry, TooManyFetches}
 use Rattle.call_expand.specs.Place.{FailsAt}
 use Rattle.call_expand.specs.Search.{AreNext, IsWalked}
-use Rattle.call_expand.proofs.Ordered.{same_configuration}
 use Rattle.call_expand.proofs.Walked.{walked_begin, accepted, faulty, too_many, walked_more}
 use Rattle.one_answer.proofs.FlatMapped.{has-flat_map, from-flat_map}
 use Rattle.one_answer.proofs.InOrder.{rest_of}
-use Rattle.one_answer.proofs.Programs.{configurations_total}
 
 -- a configuration that a step's list contains is among its successors; a fault has an empty list
 from-listed : (r : Successors) (c : Configuration) → Contains (result_unwrap_or r []) c
@@ -68,7 +67,7 @@ module _ (step : Step) where
   next_of before last =
       let gives : Configuration → List Configuration = λ c. result_unwrap_or (step c) [] in
       let found = flat_map gives last in
-      let (next, are) = rest_of configuration_cmp configurations_total same_configuration (before ++ last) found in (
+      let (next, are) = rest_of configuration_cmp configurations_total (λ c d. (equal-same c d).0) (before ++ last) found in (
         next,
         record {
           sorted = are.sorted;
