@@ -3,13 +3,14 @@ use Rattle.std.proofs.Common.{◌≡◌, ℕ, zero, suc, ◌<◌, inl, inr, Bool
 use Rattle.std.proofs.lemmas.Bool.{cases_Bool}
 use Rattle.std.proofs.lemmas.Option.{none-some}
 use Rattle.std.specs.Option.{is_some}
-use Rattle.std.specs.Prelude.{slice_get}
+use Rattle.std.specs.Prelude.{slice_get, not}
 use Rattle.transition_spec.specs.declared.way.Way.{Way}
 use Rattle.transition_spec.specs.Path.{IsPath}
 use Rattle.transition_spec.specs.Named.{Names}
 use Rattle.cache_spec.specs.Contents.{ends_in_hit}
+use Rattle.path_model.specs.declared.graph.Node.{Node}
 use Rattle.path_model.specs.Graph.{graph_step, address_of}
-use Rattle.path_trail.specs.Trail.{TrailEntry, node_at, earlier_at, IsChain}
+use Rattle.path_trail.specs.Trail.{TrailEntry, earlier_at, IsChain}
 use Rattle.path_trail.specs.Ways.{IsWayOf}
 use Rattle.focus_spec.specs.Younger.{is_small, fetch_at}
 use Rattle.focus_spec.specs.Focus.{younger_after}
@@ -18,14 +19,15 @@ use Rattle.set_view.specs.View.{View}
 use Rattle.focus_plain.specs.declared.search.Entry.{Entry}
 use Rattle.focus_plain.specs.declared.ends.Found.{Found}
 use Rattle.focus_plain.specs.Cut.{IsBelow, left_by}
-use Rattle.focus_plain.specs.Entries.{set_at, trail_of, seen_of, seen_at, latest_at, place_of, IsSpread}
-use Rattle.focus_plain.specs.Ends.{AreEnds, IsFound}
+use Rattle.focus_plain.specs.Entries.{set_at, trail_of, seen_of, seen_at, latest_at, place_of, IsBetween, IsSpread}
+use Rattle.focus_plain.specs.Ends.{IsFound, ends_of}
 use Rattle.focus_plain.proofs.Order.{small-cut}
 use Rattle.focus_plain.proofs.Course.{paths_between}
 use Rattle.focus_plain.proofs.Links.{length-trail}
 
 -- an entry has one chain
-chain_unique : (trail : List TrailEntry) (xs ys : List ℕ) (entry : Option ℕ) → IsChain trail entry xs → IsChain trail entry ys → xs ≡ ys
+chain_unique : (trail : List TrailEntry) (xs ys : List ℕ) (entry : Option ℕ) → IsChain trail entry xs
+    → IsChain trail entry ys → xs ≡ ys
 chain_unique trail [] [] entry one two = refl
 chain_unique trail [] (y ∷ ys) None one two = absurd two
 chain_unique trail [] (y ∷ ys) (Some number) one two = absurd one
@@ -38,7 +40,8 @@ chain_unique trail (x ∷ xs) (y ∷ ys) (Some number) one two =
     cc
 
 -- what an entry has seen is the set at its place
-seen-place : (sets : List (List ℕ)) (entries : List Entry) (number : ℕ) → seen_at (seen_of sets entries) number ≡ set_at sets (place_of (slice_get entries number))
+seen-place : (sets : List (List ℕ)) (entries : List Entry) (number : ℕ)
+    → seen_at (seen_of sets entries) number ≡ set_at sets (place_of (slice_get entries number))
 seen-place sets [] number = refl
 seen-place sets (entry ∷ entries) zero = refl
 seen-place sets (entry ∷ entries) (suc number) = seen-place sets entries number
@@ -62,10 +65,20 @@ below_some (Some one) (Some two) below some = refl
 
 -- a path that ends in a node which fetches the block hits where the block's younger set is small
 abbrev pub HitsWhereSmall : View → ℕ → Type 0
-HitsWhereSmall view block = (n : ℕ) (earlier : List ℕ) → IsPath (graph_step view.nodes) 0 (n ∷ earlier) → fetch_at view.fetches n ≡ Some block
-    → ends_in_hit view.geometry (map (address_of view.nodes) (n ∷ earlier)) ≡ is_small view.geometry.ways (younger_after view.fetches block earlier)
+HitsWhereSmall view block = (n : ℕ) (earlier : List ℕ) → IsPath (graph_step view.nodes) 0 (n ∷ earlier)
+    → fetch_at view.fetches n ≡ Some block
+    → ends_in_hit view.geometry (map (address_of view.nodes) (n ∷ earlier))
+    ≡ is_small view.geometry.ways (younger_after view.fetches block earlier)
 
-module _ (view : View) (found : Found) (is : IsFound view found) (law : HitsWhereSmall view found.block) (n : ℕ) (fetches : fetch_at view.fetches n ≡ Some found.block) where
+-- a noted entry is one of the trail's
+pub noted_inside : (view : View) (found : Found) (hits : Bool) (n number : ℕ) → IsFound view found
+    → latest_at (ends_of found hits) n ≡ Some number → number < length (trail_of found.search.entries.items)
+noted_inside view found hits n number is noted =
+    let at = (is.ends hits).sound n number noted in
+    omega (arith, at.0, length-trail found.search.entries.items)
+
+module _ (view : View) (found : Found) (is : IsFound view found) (law : HitsWhereSmall view found.block) (n : ℕ)
+    (fetches : fetch_at view.fetches n ≡ Some found.block) where
   -- the entries
   abbrev entries : List Entry
   entries = found.search.entries.items
@@ -76,26 +89,39 @@ module _ (view : View) (found : Found) (is : IsFound view found) (law : HitsWher
 
   -- a path hits where what it leaves is there
   hit-left : (earlier : List ℕ) → IsPath (graph_step view.nodes) 0 (n ∷ earlier)
-      → ends_in_hit view.geometry (map (address_of view.nodes) (n ∷ earlier)) ≡ is_some (left_by view found.block earlier)
-  hit-left earlier path = law n earlier path fetches ∙ small-cut view.geometry.ways (younger_after view.fetches found.block earlier)
+      → ends_in_hit view.geometry (map (address_of view.nodes) (n ∷ earlier))
+      ≡ is_some (left_by view found.block earlier)
+  hit-left earlier path =
+      law n earlier path fetches ∙ small-cut view.geometry.ways (younger_after view.fetches found.block earlier)
 
   -- an entry has seen a set where it has a place
   seen-there : (number : ℕ) → is_some (seen_at seen number) ≡ is_some (place_of (slice_get entries number))
   seen-there number =
-      ap is_some (seen-place found.search.sets.items entries number) ∙ is_some-set_at found.search.sets.items (place_of (slice_get entries number))
+      ap is_some (seen-place found.search.sets.items entries number)
+      ∙ is_some-set_at found.search.sets.items (place_of (slice_get entries number))
 
-  -- the way of a noted entry leads to the node, and hits as told
-  pub noted_way : (small : Bool) (ends : List (Option ℕ)) (number : ℕ) (way : Way) → AreEnds entries (length entries) small ends → latest_at ends n ≡ Some number
-      → IsWayOf view.nodes (trail_of entries) number way → NamesEnd view.nodes view.geometry n way small
-  noted_way small ends number way are noted way_is =
-      let at = are.sound n number noted in
+  -- what each path to the node leaves lies between what two entries there have seen
+  between : (earlier : List ℕ) → IsPath (graph_step view.nodes) 0 (n ∷ earlier)
+      → IsBetween (trail_of entries) seen n (left_by view found.block earlier)
+  between earlier path =
+      let all : IsSpread view found.block (trail_of entries) seen (length (trail_of entries)) =
+      subst (λ (k : ℕ). IsSpread view found.block (trail_of entries) seen k) (sym (length-trail entries)) is.spread in
+      paths_between view found.block (trail_of entries) seen is.search.course all earlier n path
+
+  -- the way of an entry for a hit names a path to the node that hits, and that of an entry for a miss one that misses
+  pub noted_way : (hits : Bool) (nodes : List Node) (number : ℕ) (way : Way)
+      → latest_at (ends_of found hits) n ≡ Some number → nodes ≡ view.nodes
+      → IsWayOf nodes (trail_of entries) number way → NamesEnd view.nodes view.geometry n way hits
+  noted_way hits nodes number way noted same is_way =
+      let at = (is.ends hits).sound n number noted in
+      let way_is = subst (λ (nodes : List Node). IsWayOf nodes (trail_of entries) number way) same is_way in
       let sound = is.search.course.sound number (omega (arith, at.0, length-trail entries)) in
       let earlier : List ℕ = sound.0 in
       let members : way_is.members ≡ n ∷ earlier =
-      chain_unique (trail_of entries) way_is.members (node_at (trail_of entries) number ∷ earlier) (Some number) way_is.chain sound.1
+      chain_unique (trail_of entries) way_is.members _ (Some number) way_is.chain sound.1
       ∙ ap (λ (m : ℕ). m ∷ earlier) at.1 in
-      let path : IsPath (graph_step view.nodes) 0 (n ∷ earlier) = subst (λ (xs : List ℕ). IsPath (graph_step view.nodes) 0 xs) members way_is.path in
-      let named : Names (graph_step view.nodes) way (n ∷ earlier) = subst (λ (xs : List ℕ). Names (graph_step view.nodes) way xs) members way_is.named in
+      let path = subst (λ (xs : List ℕ). IsPath (graph_step view.nodes) 0 xs) members way_is.path in
+      let named = subst (λ (xs : List ℕ). Names (graph_step view.nodes) way xs) members way_is.named in
       record {
         earlier = earlier;
         is_path = path;
@@ -104,25 +130,33 @@ module _ (view : View) (found : Found) (is : IsFound view found) (law : HitsWher
       }
 
   -- where no entry with a small younger set is noted, no path hits
-  pub none_small : latest_at found.hits.items n ≡ None → AllEnd view.nodes view.geometry n false
+  none_small : latest_at found.hits.items n ≡ None → AllEnd view.nodes view.geometry n false
   none_small none earlier path =
-      let low = (paths_between view found.block (trail_of entries) seen is.search.course (subst (λ (k : ℕ). IsSpread view found.block (trail_of entries) seen k) (sym (length-trail entries)) is.spread) earlier n path).below in
+      let low = (between earlier path).below in
       let inside : low.0 < length entries = omega (arith, low.1, length-trail entries) in
       hit-left earlier path ∙ elim (cases_Bool (is_some (place_of (slice_get entries low.0)))) [
         | inl small ↦
-            let there = is.hits.complete low.0 inside small in
+            let there = (is.ends true).complete low.0 inside small in
             absurd (none-some there.0 (sym none ∙ sym (ap (latest_at found.hits.items) low.2) ∙ there.1))
-        | inr large ↦ above_none (seen_at seen low.0) (left_by view found.block earlier) low.3 (seen-there low.0 ∙ large)
+        | inr large ↦
+            above_none (seen_at seen low.0) (left_by view found.block earlier) low.3 (seen-there low.0 ∙ large)
       ]
 
   -- where no entry without one is noted, each path hits
-  pub none_large : latest_at found.misses.items n ≡ None → AllEnd view.nodes view.geometry n true
+  none_large : latest_at found.misses.items n ≡ None → AllEnd view.nodes view.geometry n true
   none_large none earlier path =
-      let high = (paths_between view found.block (trail_of entries) seen is.search.course (subst (λ (k : ℕ). IsSpread view found.block (trail_of entries) seen k) (sym (length-trail entries)) is.spread) earlier n path).above in
+      let high = (between earlier path).above in
       let inside : high.0 < length entries = omega (arith, high.1, length-trail entries) in
       hit-left earlier path ∙ elim (cases_Bool (is_some (place_of (slice_get entries high.0)))) [
-        | inl small ↦ below_some (left_by view found.block earlier) (seen_at seen high.0) high.3 (seen-there high.0 ∙ small)
+        | inl small ↦
+            below_some (left_by view found.block earlier) (seen_at seen high.0) high.3 (seen-there high.0 ∙ small)
         | inr large ↦
-            let there = is.misses.complete high.0 inside large in
+            let there = (is.ends false).complete high.0 inside large in
             absurd (none-some there.0 (sym none ∙ sym (ap (latest_at found.misses.items) high.2) ∙ there.1))
       ]
+
+  -- where no entry is noted for a hit, each path misses, and where none is for a miss, each hits
+  pub none_noted : (hits : Bool) → latest_at (ends_of found hits) n ≡ None
+      → AllEnd view.nodes view.geometry n (not hits)
+  none_noted true = none_small
+  none_noted false = none_large

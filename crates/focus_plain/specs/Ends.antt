@@ -26,12 +26,16 @@ pub record IsNoted (old new : List (Option ℕ)) (node number : ℕ) : Type 0 wh
   pub kept : (n other : ℕ) → latest_at old n ≡ Some other → latest_at new n ≡ Some other
   pub there : (other : ℕ) × (latest_at new node ≡ Some other)
 
+-- the entries at which the search found hits, or misses, by their nodes
+abbrev pub ends_of : Found → Bool → List (Option ℕ)
+ends_of found true = found.hits.items
+ends_of found false = found.misses.items
+
 -- a search that is done, and where it found hits and misses
 pub record IsFound (view : View) (found : Found) : Type 0 where
   pub search : IsSearch view found.block found.search
   pub spread : IsSpread view found.block (trail_of found.search.entries.items)
       (seen_of found.search.sets.items found.search.entries.items) (length found.search.entries.items)
-  pub hits : AreEnds found.search.entries.items (length found.search.entries.items) true found.hits.items
-  pub misses : AreEnds found.search.entries.items (length found.search.entries.items) false found.misses.items
-  pub one_hit_each : length found.hits.items ≡ length view.nodes
-  pub one_miss_each : length found.misses.items ≡ length view.nodes
+  pub ends : (hits : Bool)
+      → AreEnds found.search.entries.items (length found.search.entries.items) hits (ends_of found hits)
+  pub one_each : (hits : Bool) → length (ends_of found hits) ≡ length view.nodes

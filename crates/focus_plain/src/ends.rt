@@ -1,8 +1,8 @@
 // Where a search found hits and misses.
 ghost use Rattle.std.specs.Prelude.{◌≡◌, ◌<◌, ◌^◌, ℕ, length, Some, IfOk};
 ghost use Rattle.path_trail.specs.Trail.{node_at};
-ghost use Rattle.focus_plain.specs.Entries.{trail_of};
-ghost use Rattle.focus_plain.specs.Ends.{AreEnds, IsNoted, IsFound};
+ghost use Rattle.focus_plain.specs.Entries.{trail_of, latest_at};
+ghost use Rattle.focus_plain.specs.Ends.{AreEnds, IsNoted, IsFound, ends_of};
 
 use crate::search::{Entry, Search, find_entries};
 use set_view::SetView;
@@ -16,6 +16,20 @@ pub(crate) struct Found {
     pub search: Search,
     pub hits: Vec<Option<u32>>,
     pub misses: Vec<Option<u32>>,
+}
+
+impl Found {
+    /// The entry for a hit at a node, or for a miss.
+    pub(crate) fn end_at(&self, node: u32, hits: bool) -> Option<u32>
+        requires { node < length (ends_of self.now hits) }
+        ensures { result ≡ latest_at (ends_of self.now hits) node }
+    {
+        if hits {
+            self.hits[node as usize]
+        } else {
+            self.misses[node as usize]
+        }
+    }
 }
 
 /// Searches for the block. An error is want of memory.

@@ -69,7 +69,7 @@ fn classification_at(
     ensures { IfOk result (λ classification. IsClassification view.now node classification) }
 {
     view_laws();
-    match (found.hits[node as usize], found.misses[node as usize]) {
+    match (found.end_at(node, true), found.end_at(node, false)) {
         (Some(hit), Some(miss)) => Ok(Classification::Both {
             hit: way_of(alloc, view.graph(), &found.search, hit)?,
             miss: way_of(alloc, view.graph(), &found.search, miss)?,

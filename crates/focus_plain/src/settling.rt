@@ -1,5 +1,5 @@
 // The least and the most younger sets where a block is fetched, with the ways that bear out its fate there.
-ghost use Rattle.std.specs.Prelude.{◌≡◌, ◌<◌, length, map, [], ◌∷◌, ◌++◌, if◌then◌else◌, Some, true, false, IfOk, OnOk};
+ghost use Rattle.std.specs.Prelude.{◌≡◌, ◌<◌, length, map, [], ◌∷◌, ◌++◌, if◌then◌else◌, Some, IfOk, OnOk};
 ghost use Rattle.std.specs.List.{All};
 ghost use Rattle.focus_spec.specs.Younger.{fetch_at};
 ghost use Rattle.set_view.specs.View.{IsView};
@@ -143,47 +143,28 @@ fn fate_at(alloc: Global, view: &SetView, found: &Found, node: u32) -> Result<Fa
 {
     Ok(Fate {
         node,
-        hit: hit_at(alloc, view, found, node)?,
-        miss: miss_at(alloc, view, found, node)?,
+        hit: way_at(alloc, view, found, node, true)?,
+        miss: way_at(alloc, view, found, node, false)?,
     })
 }
 
-// A way to a hit at a node that fetches the block, if some path is one.
-fn hit_at(
+// A way to a hit at a node that fetches the block, or to a miss, if some path is one.
+fn way_at(
     alloc: Global,
     view: &SetView,
     found: &Found,
     node: u32,
+    hits: bool,
 ) -> Result<Option<Way>, AllocError>
     requires view { IsView view.now }
     requires found { IsFound view.now found.now }
     requires fetches { fetch_at view.now.fetches node ≡ Some found.now.block }
     requires inside { node < length view.now.nodes }
-    ensures { IfOk result (λ hit. IsEnd view.now node true hit) }
+    ensures { IfOk result (λ way. IsEnd view.now node hits way) }
 {
     view_laws();
-    match found.hits[node as usize] {
-        Some(hit) => Ok(Some(way_of(alloc, view.graph(), &found.search, hit)?)),
-        None => Ok(None),
-    }
-}
-
-// A way to a miss at a node that fetches the block, if some path is one.
-fn miss_at(
-    alloc: Global,
-    view: &SetView,
-    found: &Found,
-    node: u32,
-) -> Result<Option<Way>, AllocError>
-    requires view { IsView view.now }
-    requires found { IsFound view.now found.now }
-    requires fetches { fetch_at view.now.fetches node ≡ Some found.now.block }
-    requires inside { node < length view.now.nodes }
-    ensures { IfOk result (λ miss. IsEnd view.now node false miss) }
-{
-    view_laws();
-    match found.misses[node as usize] {
-        Some(miss) => Ok(Some(way_of(alloc, view.graph(), &found.search, miss)?)),
+    match found.end_at(node, hits) {
+        Some(entry) => Ok(Some(way_of(alloc, view.graph(), &found.search, entry)?)),
         None => Ok(None),
     }
 }

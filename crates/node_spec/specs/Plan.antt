@@ -1,5 +1,5 @@
 -- Which line of a report stands at a place, from one verdict for each node of an expanded program.
-use Rattle.std.specs.Prelude.{◌≡◌, ◌⊎◌, ℕ, ◌+◌, ◌<◌, ◌≤◌, nat_lt, if◌then◌else◌, List, ◌∷◌, length, Option, Some, None, Contains, option_map, slice_get}
+use Rattle.std.specs.Prelude.{◌≡◌, ℕ, ◌+◌, ◌<◌, ◌≤◌, nat_lt, Bool, true, false, IsTrue, IsFalse, if◌then◌else◌, List, ◌∷◌, length, Option, Some, None, Contains, option_map, slice_get}
 use Rattle.std.specs.List.{AllByRecursion}
 use Rattle.elf_spec.specs.Image.{Image}
 use Rattle.elf_spec.specs.Word.{IsText, IsNextText}
@@ -25,19 +25,20 @@ pub record IsNodeAt (nodes : List Node) (address n : ℕ) : Type 0 where
 abbrev pub NamesPathTo : List Node → ℕ → Way → Type 0
 NamesPathTo nodes n way = (earlier : List ℕ) × IsPath (graph_step nodes) 0 (n ∷ earlier) × Names (graph_step nodes) way (n ∷ earlier)
 
--- the way is that to a hit of an unknown node at the address, or leads to a node there that always hits
-abbrev pub IsHitWay : List Node → List Verdict → ℕ → Way → Type 0
-IsHitWay nodes verdicts address way =
-    (n : ℕ) × IsNodeAt nodes address n
-    × (((miss : Way) × (slice_get verdicts n ≡ Some (Unknown way miss)))
-    ⊎ ((slice_get verdicts n ≡ Some AlwaysHit) × NamesPathTo nodes n way))
+-- the verdict's own way to a hit, or to a miss where `hits` is false; or any way to a node where each path ends so
+abbrev pub IsVerdictWay : List Node → ℕ → Verdict → Bool → Way → Type 0
+IsVerdictWay nodes n AlwaysHit hits way = IsTrue hits × NamesPathTo nodes n way
+IsVerdictWay nodes n AlwaysMiss hits way = IsFalse hits × NamesPathTo nodes n way
+IsVerdictWay nodes n (Unknown hit miss) hits way = way ≡ (if hits then hit else miss)
 
--- the way is that to a miss of an unknown node at the address, or leads to a node there that always misses
-abbrev pub IsMissWay : List Node → List Verdict → ℕ → Way → Type 0
-IsMissWay nodes verdicts address way =
-    (n : ℕ) × IsNodeAt nodes address n
-    × (((hit : Way) × (slice_get verdicts n ≡ Some (Unknown hit way)))
-    ⊎ ((slice_get verdicts n ≡ Some AlwaysMiss) × NamesPathTo nodes n way))
+-- the node has a verdict, and the way is one to a hit, or to a miss, by it
+abbrev pub IsNodeWay : List Node → List Verdict → ℕ → Bool → Way → Type 0
+IsNodeWay nodes verdicts n hits way =
+    (verdict : Verdict) × (slice_get verdicts n ≡ Some verdict) × IsVerdictWay nodes n verdict hits way
+
+-- the way is one to a hit, or to a miss, of a node at the address
+abbrev pub IsWayAt : List Node → List Verdict → ℕ → Bool → Way → Type 0
+IsWayAt nodes verdicts address hits way = (n : ℕ) × IsNodeAt nodes address n × IsNodeWay nodes verdicts n hits way
 
 -- some node is at the address, and each node there has the verdict
 pub record AllHave (nodes : List Node) (verdicts : List Verdict) (address : ℕ) (verdict : Verdict) : Type 0 where
@@ -48,7 +49,8 @@ pub record AllHave (nodes : List Node) (verdicts : List Verdict) (address : ℕ)
 abbrev pub IsMerged : List Node → List Verdict → ℕ → Verdict → Type 0
 IsMerged nodes verdicts address AlwaysHit = AllHave nodes verdicts address AlwaysHit
 IsMerged nodes verdicts address AlwaysMiss = AllHave nodes verdicts address AlwaysMiss
-IsMerged nodes verdicts address (Unknown hit miss) = IsHitWay nodes verdicts address hit × IsMissWay nodes verdicts address miss
+IsMerged nodes verdicts address (Unknown hit miss) =
+    IsWayAt nodes verdicts address true hit × IsWayAt nodes verdicts address false miss
 
 -- a word of the text at which there is no node
 pub record IsBare (image : Image) (nodes : List Node) (address : ℕ) : Type 0 where

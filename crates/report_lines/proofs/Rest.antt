@@ -1,6 +1,6 @@
 -- From each place on there are lines of a report by address.
-use Rattle.std.proofs.Common.{◌≡◌, ℕ, zero, suc, ◌+◌, ◌*◌, ◌^◌, ◌<◌, ◌≤◌, List, [], ◌∷◌, ◌++◌, length, refl, subst, sym, arith, inl, inr, Option, Some, None}
-use Rattle.std.specs.Prelude.{Bool, true, false, ◌==◌, ◌⊎◌, Contains, IsTrue, IsFalse, slice_get}
+use Rattle.std.proofs.Common.{◌≡◌, ℕ, zero, suc, ◌+◌, ◌*◌, ◌^◌, ◌<◌, ◌≤◌, List, [], ◌∷◌, ◌++◌, length, refl, ap, subst, sym, ◌∙◌, arith, inl, inr, Option, Some, None}
+use Rattle.std.specs.Prelude.{Bool, true, false, not, ◌==◌, ◌⊎◌, if◌then◌else◌, Contains, IsTrue, IsFalse, slice_get}
 use Rattle.std.specs.List.{AllByRecursion}
 use Rattle.std.proofs.lemmas.Bool.Decides.{nat_tests}
 use Rattle.list_lemmas.proofs.Members.{has-first, has-later}
@@ -18,7 +18,8 @@ use Rattle.report_spec.specs.declared.line.Line.TheVariants.{At, Unreachable}
 use Rattle.report_spec.specs.declared.line.Verdict.{Verdict}
 use Rattle.report_spec.specs.declared.line.Verdict.TheVariants.{AlwaysHit, AlwaysMiss, Unknown}
 use Rattle.report_spec.specs.Report.{range_addresses}
-use Rattle.node_spec.specs.Plan.{IsNodeAt, NamesPathTo, IsHitWay, IsMissWay, IsMerged, IsBare, IsBareRange, IsLineAt, IsByAddress, last_of}
+use Rattle.node_spec.specs.Plan.{IsNodeAt, NamesPathTo, IsVerdictWay, IsWayAt, IsMerged, IsBare, IsBareRange, IsLineAt, IsByAddress, last_of}
+use Rattle.node_spec.proofs.Always.{always}
 use Rattle.report_lines.specs.Findings.{IsWithin}
 use Rattle.report_lines.specs.Lines.{AreAllFrom}
 use Rattle.report_lines.proofs.Words.{range_begins, range_alone}
@@ -39,6 +40,15 @@ way_there nodes n graph inside =
     let (earlier, path) = node_reached nodes n graph inside in
     let (letters, has) = choices_there nodes (n ∷ earlier) path in
     (record { steps = length (n ∷ earlier); choices = letters }, (earlier, path, record { steps = refl; choices = has }))
+
+-- by each verdict there is a way to a hit, or no path hits; likewise for misses
+way_or_never : (nodes : List Node) (n : ℕ) (verdict : Verdict) (hits : Bool) → (way : Way) × NamesPathTo nodes n way
+    → ((way : Way) × IsVerdictWay nodes n verdict hits way) ⊎ (verdict ≡ always (not hits))
+way_or_never nodes n AlwaysHit true (way, names) = inl (way, (refl, names))
+way_or_never nodes n AlwaysHit false to = inr refl
+way_or_never nodes n AlwaysMiss true to = inr refl
+way_or_never nodes n AlwaysMiss false (way, names) = inl (way, (refl, names))
+way_or_never nodes n (Unknown hit miss) hits to = inl (if hits then hit else miss, refl)
 
 module _ (nodes : List Node) (address : ℕ) where
   -- one of the first nodes is at the address, or none is
@@ -89,53 +99,36 @@ module _ (nodes : List Node) (verdicts : List Verdict) (address : ℕ) (graph : 
       → slice_get verdicts count ≡ Some verdict
   not_there count verdict is at = let here = at.at in absurd (grind (arith, nat_tests, is, here))
 
-  -- a way to a hit among the first nodes, or all of those at the address always miss
-  hit_there : (count : ℕ) → count ≤ length nodes → ((way : Way) × IsHitWay nodes verdicts address way) ⊎ Each AlwaysMiss count
-  hit_there zero few = inr (λ n below at. absurd (omega (arith, below)))
-  hit_there (suc count) few = elim (hit_there count (omega (arith, few))) [
+  -- a way to a hit at the address by one of the first nodes, or all of those there always miss; likewise for misses
+  end_there : (hits : Bool) (count : ℕ) → count ≤ length nodes
+      → ((way : Way) × IsWayAt nodes verdicts address hits way) ⊎ Each (always (not hits)) count
+  end_there hits zero few = inr (λ n below at. absurd (omega (arith, below)))
+  end_there hits (suc count) few = elim (end_there hits count (omega (arith, few))) [
     | inl found ↦ inl found
     | inr each ↦ by_test each (address_of nodes count == address) refl
   ] where
-    by_verdict : Each AlwaysMiss count → IsNodeAt nodes address count → (verdict : Verdict) → slice_get verdicts count ≡ Some verdict
-        → ((way : Way) × IsHitWay nodes verdicts address way) ⊎ Each AlwaysMiss (suc count)
-    by_verdict each at AlwaysHit is =
-        let (way, names) = way_there nodes count graph at.inside in inl (way, (count, at, inr (is, names)))
-    by_verdict each at AlwaysMiss is = inr (each_more AlwaysMiss count each (λ at. is))
-    by_verdict each at (Unknown hit miss) is = inl (hit, (count, at, inl (miss, is)))
+    by_verdict : Each (always (not hits)) count → IsNodeAt nodes address count → (verdict : Verdict)
+        → slice_get verdicts count ≡ Some verdict
+        → ((way : Way) × IsWayAt nodes verdicts address hits way) ⊎ Each (always (not hits)) (suc count)
+    by_verdict each at verdict is =
+        elim (way_or_never nodes count verdict hits (way_there nodes count graph at.inside)) [
+          | inl (way, to) ↦ inl (way, (count, at, (verdict, is, to)))
+          | inr never ↦ inr (each_more (always (not hits)) count each (λ at. is ∙ ap Some never))
+        ]
 
-    by_test : Each AlwaysMiss count → (here : Bool) → (address_of nodes count == address) ≡ here
-        → ((way : Way) × IsHitWay nodes verdicts address way) ⊎ Each AlwaysMiss (suc count)
-    by_test each false is = inr (each_more AlwaysMiss count each (not_there count AlwaysMiss is))
+    by_test : Each (always (not hits)) count → (here : Bool) → (address_of nodes count == address) ≡ here
+        → ((way : Way) × IsWayAt nodes verdicts address hits way) ⊎ Each (always (not hits)) (suc count)
+    by_test each false is = inr (each_more (always (not hits)) count each (not_there count (always (not hits)) is))
     by_test each true is =
-        let at : IsNodeAt nodes address count = record { inside = omega (arith, few); at = grind (arith, nat_tests, is) } in
-        let (verdict, is_v) = has count at.inside in by_verdict each at verdict is_v
-
-  -- a way to a miss among the first nodes, or all of those at the address always hit
-  miss_there : (count : ℕ) → count ≤ length nodes → ((way : Way) × IsMissWay nodes verdicts address way) ⊎ Each AlwaysHit count
-  miss_there zero few = inr (λ n below at. absurd (omega (arith, below)))
-  miss_there (suc count) few = elim (miss_there count (omega (arith, few))) [
-    | inl found ↦ inl found
-    | inr each ↦ by_test each (address_of nodes count == address) refl
-  ] where
-    by_verdict : Each AlwaysHit count → IsNodeAt nodes address count → (verdict : Verdict) → slice_get verdicts count ≡ Some verdict
-        → ((way : Way) × IsMissWay nodes verdicts address way) ⊎ Each AlwaysHit (suc count)
-    by_verdict each at AlwaysMiss is =
-        let (way, names) = way_there nodes count graph at.inside in inl (way, (count, at, inr (is, names)))
-    by_verdict each at AlwaysHit is = inr (each_more AlwaysHit count each (λ at. is))
-    by_verdict each at (Unknown hit miss) is = inl (miss, (count, at, inl (hit, is)))
-
-    by_test : Each AlwaysHit count → (here : Bool) → (address_of nodes count == address) ≡ here
-        → ((way : Way) × IsMissWay nodes verdicts address way) ⊎ Each AlwaysHit (suc count)
-    by_test each false is = inr (each_more AlwaysHit count each (not_there count AlwaysHit is))
-    by_test each true is =
-        let at : IsNodeAt nodes address count = record { inside = omega (arith, few); at = grind (arith, nat_tests, is) } in
+        let here : address_of nodes count ≡ address = grind (arith, nat_tests, is) in
+        let at : IsNodeAt nodes address count = record { inside = omega (arith, few); at = here } in
         let (verdict, is_v) = has count at.inside in by_verdict each at verdict is_v
 
   -- the nodes at an address have one merged verdict
   pub merged_there : (n : ℕ) → IsNodeAt nodes address n → (verdict : Verdict) × IsMerged nodes verdicts address verdict
-  merged_there n here = elim (hit_there (length nodes) (omega arith)) [
+  merged_there n here = elim (end_there true (length nodes) (omega arith)) [
     | inr misses ↦ (AlwaysMiss, record { some = (n, here); each = λ m at. misses m at.inside at })
-    | inl (hit, to_hit) ↦ elim (miss_there (length nodes) (omega arith)) [
+    | inl (hit, to_hit) ↦ elim (end_there false (length nodes) (omega arith)) [
       | inr hits ↦ (AlwaysHit, record { some = (n, here); each = λ m at. hits m at.inside at })
       | inl (miss, to_miss) ↦ (Unknown hit miss, (to_hit, to_miss))
     ]

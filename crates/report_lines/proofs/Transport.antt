@@ -1,5 +1,5 @@
 -- What is right of nodes is right of their configurations.
-use Rattle.std.proofs.Common.{◌≡◌, ℕ, ◌<◌, List, [], ◌∷◌, length, map, refl, ap, sym, ◌∙◌, subst, arith, Some, inl, inr}
+use Rattle.std.proofs.Common.{◌≡◌, ℕ, ◌<◌, List, [], ◌∷◌, length, map, refl, ap, sym, ◌∙◌, subst, arith, Some}
 use Rattle.std.specs.Prelude.{Bool, true, false, slice_get}
 use Rattle.std.proofs.lemmas.List.{length-map}
 use Rattle.elf_spec.specs.Image.{Image}
@@ -21,7 +21,7 @@ use Rattle.call_expand.specs.Expansion.{IsGraphOf, numbered}
 use Rattle.call_expand.proofs.Paths.{address_at, path_to, path_from, choices_to, path_addresses, member_inside}
 use Rattle.focus_spec.specs.Fate.{path_hits, AllEnd, NamesEnd}
 use Rattle.node_spec.specs.Verdict.{IsNodeVerdict, IsRightAt}
-use Rattle.node_spec.specs.Plan.{IsNodeAt, IsHitWay, IsMissWay, IsMerged}
+use Rattle.node_spec.specs.Plan.{IsNodeAt, IsVerdictWay, IsWayAt, IsMerged}
 
 module _ (image : Image) (entry : ℕ) (g : Geometry) (configurations : List Configuration) (nodes : List Node)
     (is : IsGraphOf (successors image entry) entry configurations nodes) (Ends : Configuration → Type 0) where
@@ -106,6 +106,18 @@ verdict_is nodes g verdicts n verdict right is =
     let same : right.0 ≡ verdict = cc (is, right.1) in
     subst (λ (v : Verdict). IsNodeVerdict nodes g n v) same right.2
 
+-- a way to a hit by a right verdict names a path that hits, and one to a miss a path that misses
+way_ends : (nodes : List Node) (g : Geometry) (n : ℕ) (verdict : Verdict) (hits : Bool) (way : Way)
+    → IsNodeVerdict nodes g n verdict → IsVerdictWay nodes n verdict hits way → NamesEnd nodes g n way hits
+way_ends nodes g n AlwaysHit hits way all (so, (earlier, path, names)) =
+    record { earlier = earlier; is_path = path; names = names; fate = all earlier path ∙ sym so }
+way_ends nodes g n AlwaysMiss hits way all (so, (earlier, path, names)) =
+    record { earlier = earlier; is_path = path; names = names; fate = all earlier path ∙ sym so }
+way_ends nodes g n (Unknown hit miss) true way ends same =
+    subst (λ (w : Way). NamesEnd nodes g n w true) (sym same) ends.0
+way_ends nodes g n (Unknown hit miss) false way ends same =
+    subst (λ (w : Way). NamesEnd nodes g n w false) (sym same) ends.1
+
 module _ (image : Image) (entry : ℕ) (g : Geometry) (configurations : List Configuration) (nodes : List Node) (verdicts : List Verdict)
     (is : IsGraphOf (successors image entry) entry configurations nodes)
     (right : (n : ℕ) → n < length nodes → IsRightAt nodes g verdicts n) where
@@ -118,25 +130,14 @@ module _ (image : Image) (entry : ℕ) (g : Geometry) (configurations : List Con
   node_there address n inside at =
       record { inside = inside; at = address_at (successors image entry) entry configurations nodes is n inside ∙ at }
 
-  -- the way to a hit at an address names a path that hits
-  hit_way : (address : ℕ) (way : Way) → IsHitWay nodes verdicts address way → NamesFate image entry g (IsAt address) way true
-  hit_way address way (n, here, inl (miss, is_unknown)) =
-      let named : NamesEnd nodes g n way true = (verdict_is nodes g verdicts n (Unknown way miss) (right n here.inside) is_unknown).0 in
-      named_fate image entry g configurations nodes is (IsAt address) n named.earlier way true named.is_path named.names
-      named.fate (at_address address n here)
-  hit_way address way (n, here, inr (is_hit, (earlier, path, names))) =
-      named_fate image entry g configurations nodes is (IsAt address) n earlier way true path names
-      (verdict_is nodes g verdicts n AlwaysHit (right n here.inside) is_hit earlier path) (at_address address n here)
-
-  -- the way to a miss at an address names a path that misses
-  miss_way : (address : ℕ) (way : Way) → IsMissWay nodes verdicts address way → NamesFate image entry g (IsAt address) way false
-  miss_way address way (n, here, inl (hit, is_unknown)) =
-      let named : NamesEnd nodes g n way false = (verdict_is nodes g verdicts n (Unknown hit way) (right n here.inside) is_unknown).1 in
-      named_fate image entry g configurations nodes is (IsAt address) n named.earlier way false named.is_path named.names
-      named.fate (at_address address n here)
-  miss_way address way (n, here, inr (is_miss, (earlier, path, names))) =
-      named_fate image entry g configurations nodes is (IsAt address) n earlier way false path names
-      (verdict_is nodes g verdicts n AlwaysMiss (right n here.inside) is_miss earlier path) (at_address address n here)
+  -- the way to a hit at an address names a path that hits, and that to a miss one that misses
+  way_right : (address : ℕ) (hits : Bool) (way : Way) → IsWayAt nodes verdicts address hits way
+      → NamesFate image entry g (IsAt address) way hits
+  way_right address hits way (n, here, (verdict, has, to)) =
+      let ends : NamesEnd nodes g n way hits =
+      way_ends nodes g n verdict hits way (verdict_is nodes g verdicts n verdict (right n here.inside) has) to in
+      named_fate image entry g configurations nodes is (IsAt address) n ends.earlier way hits ends.is_path ends.names
+      ends.fate (at_address address n here)
 
   -- the merged verdict of an address is right of the configurations there
   pub merged_right : (address : ℕ) (verdict : Verdict) → IsMerged nodes verdicts address verdict
@@ -149,7 +150,7 @@ module _ (image : Image) (entry : ℕ) (g : Geometry) (configurations : List Con
       let (n, here) = have.some in
       always_miss image entry g configurations nodes is (IsAt address) n here.inside (at_address address n here)
       (λ m at inside. verdict_is nodes g verdicts m AlwaysMiss (right m inside) (have.each m (node_there address m inside at)))
-  merged_right address (Unknown hit miss) ways = (hit_way address hit ways.0, miss_way address miss ways.1)
+  merged_right address (Unknown hit miss) ways = (way_right address true hit ways.0, way_right address false miss ways.1)
 
   -- no path ends at an address without a node
   pub bare_unreached : (address : ℕ) → ((n : ℕ) → IsNodeAt nodes address n → ⊥) → IsUnreached image entry address

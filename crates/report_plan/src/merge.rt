@@ -1,10 +1,10 @@
 // The one verdict of the nodes at an address.
-ghost use Rattle.std.specs.Prelude.{◌≡◌, ℕ, ◌<◌, length, IsTrue, IfOk, IfSome, IfNone};
+ghost use Rattle.std.specs.Prelude.{◌≡◌, ℕ, ◌<◌, if◌then◌else◌, length, IsTrue, IfOk, IfSome, IfNone};
 ghost use Rattle.std.specs.List.{Contains};
 ghost use Rattle.report_spec.specs.Valid.{is_valid_way, is_valid_verdict};
-ghost use Rattle.node_spec.specs.Plan.{IsMerged, IsNodeAt};
+ghost use Rattle.node_spec.specs.Plan.{IsMerged, IsNodeAt, IsNodeWay};
 ghost use Rattle.report_plan.specs.Kept.{AreBefore, IsPlanOf};
-ghost use Rattle.report_plan.specs.Ending.{may_end, MayEnd, IsWayOf};
+ghost use Rattle.report_plan.specs.Ending.{may_end, MayEnd};
 ghost use Rattle.report_plan.specs.Valid.{AreValid};
 
 use crate::before::{Befores, way_to};
@@ -40,6 +40,13 @@ fn first_ending(verdicts: &[Verdict], here: &[u32], hits: bool) -> Option<u32>
     None
 }
 
+// The way to a hit, or to a miss.
+fn one_of<'a>(hit: &'a Way, miss: &'a Way, hits: bool) -> &'a Way
+    ensures { result.now ≡ (if hits then hit.now else miss.now) }
+{
+    if hits { hit } else { miss }
+}
+
 // The way of a node whose verdict says that some path ends in a hit, or in a miss.
 fn way_of(
     alloc: Global,
@@ -52,12 +59,11 @@ fn way_of(
     requires before { AreBefore graph.now before.now }
     requires one_each { length verdicts.now ≡ length graph.now }
     requires ends { MayEnd verdicts.now hits node }
-    ensures way { IfOk result (IsWayOf graph.now verdicts.now hits node) }
+    ensures way { IfOk result (IsNodeWay graph.now verdicts.now node hits) }
     ensures valid { IfOk result (λ way. AreValid verdicts.now → IsTrue (is_valid_way way)) }
 {
-    match (&verdicts[node as usize], hits) {
-        (Verdict::Unknown { hit, .. }, true) => copy_way(alloc, hit),
-        (Verdict::Unknown { miss, .. }, false) => copy_way(alloc, miss),
+    match &verdicts[node as usize] {
+        Verdict::Unknown { hit, miss } => copy_way(alloc, one_of(hit, miss, hits)),
         _ => way_to(alloc, graph, before, node),
     }
 }

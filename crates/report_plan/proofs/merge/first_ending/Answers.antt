@@ -12,21 +12,20 @@ bounds-verdicts-node c = c.requires _ (Contains-get_or c.args.here.now c.loop-no
 
 pub returns-then-may_end-clause-some : goal.returns-then-may_end-clause-some
 returns-then-may_end-clause-some c =
-    let listed = Contains-get_or c.args.here.now c.loop-node.node-index 0 c.loop-node-test.true in (
-      listed,
-      (
-        c.index-verdicts-node.result,
-        slice_get_read c.args.verdicts.now _ _ c.index-verdicts-node.result refl (c.requires _ listed) c.index-verdicts-node.is,
-        sym c.may_end.ensures ∙ c.if-may_end.true,
-      ),
-    )
+    let verdict = c.index-verdicts-node.result in
+    let listed = Contains-get_or c.args.here.now c.loop-node.node-index 0 c.loop-node-test.true in
+    let inside = c.requires _ listed in
+    let has = slice_get_read c.args.verdicts.now _ _ verdict refl inside c.index-verdicts-node.is in
+    (listed, (verdict, has, sym c.may_end.ensures ∙ c.if-may_end.true))
 
 pub loop-node-preserved : goal.loop-node-preserved
 loop-node-preserved c =
+    let verdict = c.index-verdicts-node.result in
     let listed = Contains-get_or c.args.here.now c.loop-node.node-index 0 c.loop-node-test.true in
-    let has = slice_get_read c.args.verdicts.now _ _ c.index-verdicts-node.result refl (c.requires _ listed) c.index-verdicts-node.is in
-    none-more c.args.verdicts.now c.args.hits c.args.here.now c.loop-node.node-index c.loop-node-test.true c.loop-node.invariant
-    (not-end c.args.verdicts.now c.args.hits _ c.index-verdicts-node.result has (sym c.may_end.ensures ∙ c.if-may_end.false))
+    let inside = c.requires _ listed in
+    let has = slice_get_read c.args.verdicts.now _ _ verdict refl inside c.index-verdicts-node.is in
+    let never = not-end c.args.verdicts.now c.args.hits _ verdict has (sym c.may_end.ensures ∙ c.if-may_end.false) in
+    none-more _ _ _ c.loop-node.node-index c.loop-node-test.true c.loop-node.invariant never
 
 pub returns-clause-none : goal.returns-clause-none
 returns-clause-none c =

@@ -1,63 +1,51 @@
-use Rattle.std.proofs.Common.{ℕ, List, subst, arith}
-use Rattle.std.specs.Prelude.{◌↔◌}
-use Rattle.std.specs.List.{Contains}
+use Rattle.std.proofs.Common.{true, false}
 use Rattle.std.proofs.lemmas.Bool.{and_from}
-use Rattle.path_model.specs.declared.graph.Node.{Node}
-use Rattle.node_spec.specs.Plan.{IsNodeAt}
 use Rattle.report_spec.specs.Valid.{is_valid_way}
-use Rattle.report_plan.proofs.Ends.{AreThose, all-hit, all-miss, none-there, hit-way, miss-way, none-found, some-found}
+use Rattle.report_plan.proofs.Ends.{those-listed, those-inside, all-always, none-there, none-found, some-found}
 use Rattle.report_plan.proofs.merge.merged.Goals as goal
 
 pub first_ending-hit-requires : goal.first_ending-hit-requires
 first_ending-hit-requires c = λ n listed.
-    let at = (c.nodes_at-here.ensures n).0 listed in
-    let P : List Node → Type 0 = λ nodes. IsNodeAt nodes c.args.address n in
-    let there = subst P c.nodes.ensures.same at in
-    omega (arith, there.inside, c.requires.one_each)
+    let those = those-listed _ _ _ _ _ c.requires.one_each c.nodes.ensures.same c.nodes_at-here.ensures in
+    those-inside _ _ _ _ n those listed
 
 pub first_ending-miss-requires : goal.first_ending-miss-requires
 first_ending-miss-requires c = λ n listed.
-    let at = (c.nodes_at-here.ensures n).0 listed in
-    let P : List Node → Type 0 = λ nodes. IsNodeAt nodes c.args.address n in
-    let there = subst P c.nodes.ensures.same at in
-    omega (arith, there.inside, c.requires.one_each)
+    let those = those-listed _ _ _ _ _ c.requires.one_each c.nodes.ensures.same c.nodes_at-here.ensures in
+    those-inside _ _ _ _ n those listed
 
 pub returns-in-None-None-clause-none : goal.returns-in-None-None-clause-none
 returns-in-None-None-clause-none c =
-    let here = c.nodes_at-here.result.now in
-    let P : List Node → Type 0 = λ nodes. (n : ℕ) → Contains here n ↔ IsNodeAt nodes c.args.address n in
-    let those : AreThose c.args.graph.now c.args.verdicts.now c.args.address here = record { one_each = c.requires.one_each; members = subst P c.nodes.ensures.same c.nodes_at-here.ensures } in
-    none-there c.args.graph.now c.args.verdicts.now c.args.address here those
+    let those = those-listed _ _ _ _ _ c.requires.one_each c.nodes.ensures.same c.nodes_at-here.ensures in
+    none-there _ _ _ _ those
     (none-found c.first_ending-hit.result _ c.in-None-None.is-0 c.first_ending-hit.ensures.none)
     (none-found c.first_ending-miss.result _ c.in-None-None.is-1 c.first_ending-miss.ensures.none)
 
 pub returns-in-None-Some-clause-some : goal.returns-in-None-Some-clause-some
 returns-in-None-Some-clause-some c =
-    let here = c.nodes_at-here.result.now in
-    let P : List Node → Type 0 = λ nodes. (n : ℕ) → Contains here n ↔ IsNodeAt nodes c.args.address n in
-    let those : AreThose c.args.graph.now c.args.verdicts.now c.args.address here = record { one_each = c.requires.one_each; members = subst P c.nodes.ensures.same c.nodes_at-here.ensures } in
-    let found = some-found c.first_ending-miss.result _ c.in-None-Some.field-0-1 c.in-None-Some.is-1 c.first_ending-miss.ensures.some in
-    all-miss c.args.graph.now c.args.verdicts.now c.args.address here c.in-None-Some.field-0-1 those found.0
+    let n = c.in-None-Some.field-0-1 in
+    let found = some-found c.first_ending-miss.result _ n c.in-None-Some.is-1 c.first_ending-miss.ensures.some in
+    let those = those-listed _ _ _ _ _ c.requires.one_each c.nodes.ensures.same c.nodes_at-here.ensures in
+    all-always _ _ _ _ false n those found.0
     (none-found c.first_ending-hit.result _ c.in-None-Some.is-0 c.first_ending-hit.ensures.none)
 
 pub returns-in-Some-None-clause-some : goal.returns-in-Some-None-clause-some
 returns-in-Some-None-clause-some c =
-    let here = c.nodes_at-here.result.now in
-    let P : List Node → Type 0 = λ nodes. (n : ℕ) → Contains here n ↔ IsNodeAt nodes c.args.address n in
-    let those : AreThose c.args.graph.now c.args.verdicts.now c.args.address here = record { one_each = c.requires.one_each; members = subst P c.nodes.ensures.same c.nodes_at-here.ensures } in
-    let found = some-found c.first_ending-hit.result _ c.in-Some-None.field-0-0 c.in-Some-None.is-0 c.first_ending-hit.ensures.some in
-    all-hit c.args.graph.now c.args.verdicts.now c.args.address here c.in-Some-None.field-0-0 those found.0
+    let n = c.in-Some-None.field-0-0 in
+    let found = some-found c.first_ending-hit.result _ n c.in-Some-None.is-0 c.first_ending-hit.ensures.some in
+    let those = those-listed _ _ _ _ _ c.requires.one_each c.nodes.ensures.same c.nodes_at-here.ensures in
+    all-always _ _ _ _ true n those found.0
     (none-found c.first_ending-miss.result _ c.in-Some-None.is-1 c.first_ending-miss.ensures.none)
 
 pub returns-in_ok-way_of-in-Some-Some-2-clause-some : goal.returns-in_ok-way_of-in-Some-Some-2-clause-some
 returns-in_ok-way_of-in-Some-Some-2-clause-some c =
-    let here = c.nodes_at-here.result.now in
-    let P : List Node → Type 0 = λ nodes. (n : ℕ) → Contains here n ↔ IsNodeAt nodes c.args.address n in
-    let members = subst P c.nodes.ensures.same c.nodes_at-here.ensures in
-    let hit = some-found c.first_ending-hit.result _ c.in-Some-Some.hit c.in-Some-Some.is-0 c.first_ending-hit.ensures.some in
-    let miss = some-found c.first_ending-miss.result _ c.in-Some-Some.miss c.in-Some-Some.is-1 c.first_ending-miss.ensures.some in (
-      hit-way c.args.graph.now c.args.verdicts.now c.args.address c.in-Some-Some.hit _ ((members c.in-Some-Some.hit).0 hit.0) c.in_ok-way_of-in-Some-Some.ensures.way,
-      miss-way c.args.graph.now c.args.verdicts.now c.args.address c.in-Some-Some.miss _ ((members c.in-Some-Some.miss).0 miss.0) c.in_ok-way_of-in-Some-Some-2.ensures.way,
+    let those = those-listed _ _ _ _ _ c.requires.one_each c.nodes.ensures.same c.nodes_at-here.ensures in
+    let hit = c.in-Some-Some.hit in
+    let miss = c.in-Some-Some.miss in
+    let hits = some-found c.first_ending-hit.result _ hit c.in-Some-Some.is-0 c.first_ending-hit.ensures.some in
+    let misses = some-found c.first_ending-miss.result _ miss c.in-Some-Some.is-1 c.first_ending-miss.ensures.some in (
+      (hit, (those.members hit).0 hits.0, c.in_ok-way_of-in-Some-Some.ensures.way),
+      (miss, (those.members miss).0 misses.0, c.in_ok-way_of-in-Some-Some-2.ensures.way),
     )
 
 pub returns-in_ok-way_of-in-Some-Some-2-clause-valid : goal.returns-in_ok-way_of-in-Some-Some-2-clause-valid
