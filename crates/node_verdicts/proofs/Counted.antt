@@ -1,4 +1,4 @@
--- The fetched blocks of a set, told by nodes and by their addresses.
+-- The fetched blocks of a set, by nodes and by their addresses.
 use Rattle.std.proofs.Common.{◌≡◌, ℕ, zero, suc, ◌<◌, List, [], ◌∷◌, length, refl, ap, ◌∙◌, subst, arith, Option, Some, None}
 use Rattle.std.specs.Prelude.{Bool, true, false, ◌==◌, if◌then◌else◌, option_map}
 use Rattle.std.specs.List.{Contains}
@@ -33,12 +33,14 @@ set_is_by : (g : Geometry) (set address block : ℕ) (same : Bool) → (set_of g
 set_is_by g set address block true is some = grind (arith, nat_tests, is)
 set_is_by g set address block false is none = absurd (cc none)
 
--- the same without the test
-set_is : (g : Geometry) (set address block : ℕ) → block_in g set address ≡ Some block → set_of g (block_of g address) ≡ set
+-- an address in a block of the set lies in the set
+set_is : (g : Geometry) (set address block : ℕ) → block_in g set address ≡ Some block
+    → set_of g (block_of g address) ≡ set
 set_is g set address block some = set_is_by g set address block (set_of g (block_of g address) == set) refl some
 
 -- where no node fetches the set no block of it is fetched
-pub few_unfetched : (nodes : List Node) (g : Geometry) (set : ℕ) → ((n : ℕ) → n < length nodes → set_at nodes g n ≡ set → ⊥)
+pub few_unfetched : (nodes : List Node) (g : Geometry) (set : ℕ)
+    → ((n : ℕ) → n < length nodes → set_at nodes g n ≡ set → ⊥)
     → HaveFew (addresses_of nodes) g set
 few_unfetched nodes g set none = (
   0,
@@ -66,17 +68,20 @@ in_set_by g set address true is at = refl
 in_set_by g set address false is at = absurd (grind (arith, nat_tests, is, at))
 
 -- where a local number names a block there is such a number
-some_local : (blocks : List ℕ) (local : Option ℕ) (block : ℕ) → option_map (named blocks) local ≡ Some block → (l : ℕ) × (local ≡ Some l)
+some_local : (blocks : List ℕ) (local : Option ℕ) (block : ℕ) → option_map (named blocks) local ≡ Some block
+    → (l : ℕ) × (local ≡ Some l)
 some_local blocks None block is = absurd (cc is)
 some_local blocks (Some l) block is = (l, refl)
 
 -- a node that fetches the set fetches one of its viewed blocks, by the local number of that block
-pub local_there : (view : View) → IsView view → (n : ℕ) → n < length view.nodes → set_at view.nodes view.geometry n ≡ view.set
+pub local_there : (view : View) → IsView view → (n : ℕ) → n < length view.nodes
+    → set_at view.nodes view.geometry n ≡ view.set
     → (local : ℕ) × (fetch_at view.fetches n ≡ Some local) × (local < length view.blocks)
 local_there view is n inside at =
     let address = address_of view.nodes n in
     let g = view.geometry in
     let block : block_in g view.set address ≡ Some (block_of g address) =
     in_set_by g view.set address (set_of g (block_of g address) == view.set) refl at in
-    let (local, found) = some_local view.blocks (fetch_at view.fetches n) (block_of g address) (is.fetches n inside ∙ block) in
+    let (local, found) =
+    some_local view.blocks (fetch_at view.fetches n) (block_of g address) (is.fetches n inside ∙ block) in
     (local, found, is.within n local found)

@@ -10,7 +10,8 @@ use Rattle.path_model.specs.Graph.{addresses_of}
 use Rattle.node_verdicts.specs.Verdicts.{KeepRight, AreRightIn}
 
 -- the verdicts of the nodes of one set more are right
-pub right_sets : (nodes : List Node) (g : Geometry) (k : ℕ) (before after : List Verdict) → KeepRight nodes g before after
+pub right_sets : (nodes : List Node) (g : Geometry) (k : ℕ) (before after : List Verdict)
+    → KeepRight nodes g before after
     → ((set : ℕ) → set < k → AreRightIn nodes g set before) → AreRightIn nodes g k after → (set : ℕ) → set < k + 1
     → AreRightIn nodes g set after
 right_sets nodes g k before after keeps right more set below = by_test (set == k) refl where
@@ -18,7 +19,8 @@ right_sets nodes g k before after keeps right more set below = by_test (set == k
   by_test true is =
       let one : set ≡ k = grind (arith, nat_tests, is) in subst (λ (s : ℕ). AreRightIn nodes g s after) (sym one) more
   by_test false is =
-      let other : set < k = grind (arith, nat_tests, is, below) in λ n inside at. keeps.kept n (right set other n inside at)
+      let other : set < k = grind (arith, nat_tests, is, below) in
+      λ n inside at. keeps.kept n (right set other n inside at)
 
 -- few blocks of one set more are fetched
 pub few_sets : (nodes : List Node) (g : Geometry) (k : ℕ) → ((set : ℕ) → set < k → HaveFew (addresses_of nodes) g set)
@@ -26,5 +28,6 @@ pub few_sets : (nodes : List Node) (g : Geometry) (k : ℕ) → ((set : ℕ) →
 few_sets nodes g k few more set below = by_test (set == k) refl where
   by_test : (same : Bool) → (set == k) ≡ same → HaveFew (addresses_of nodes) g set
   by_test true is =
-      let one : set ≡ k = grind (arith, nat_tests, is) in subst (λ (s : ℕ). HaveFew (addresses_of nodes) g s) (sym one) more
+      let one : set ≡ k = grind (arith, nat_tests, is) in
+      subst (λ (s : ℕ). HaveFew (addresses_of nodes) g s) (sym one) more
   by_test false is = let other : set < k = grind (arith, nat_tests, is, below) in few set other

@@ -5,9 +5,10 @@
 #![tactic(auto)]
 
 mod marks;
-mod settle;
+mod one_set;
 #[cfg(test)]
 mod tests;
 mod verdicts;
 
-pub use verdicts::{VerdictsFault, node_verdicts};
+pub use set_view::ViewFault;
+pub use verdicts::node_verdicts;

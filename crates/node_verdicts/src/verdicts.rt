@@ -5,39 +5,31 @@ ghost use Rattle.path_model.specs.Graph.{addresses_of};
 ghost use Rattle.node_verdicts.specs.Verdicts.{AreRight, IsFault};
 
 use crate::marks::fetched_sets;
-use crate::settle::settle_marked;
+use crate::one_set::judge_set;
 use cache_geom::Geometry;
 use path_model::Graph;
 use report_spec::Verdict;
 use set_view::ViewFault;
 use std::alloc::{AllocError, Global};
 
-/// Why there are no verdicts.
-#[derive(Debug, Drop, PartialEq, Eq)]
-pub enum VerdictsFault {
-    /// The graph fetches more than 1,024 blocks of this set: so many. It is the first such set.
-    TooManyBlocks { set: u32, count: u32 },
-    OutOfMemory,
-}
-
 /// The verdict of each node: that of all paths that end in it, from an empty cache. A set that no node fetches costs
 /// next to nothing; each other set costs a look at each node, and a search for each of its fetched blocks.
 ///
-/// `TooManyBlocks` comes exactly where more than 1,024 blocks of some set are fetched, and tells the first such set.
+/// `TooManyBlocks` comes exactly where more than 1,024 blocks of some set are fetched, and has the first such set.
 pub fn node_verdicts(
     alloc: Global,
     graph: &Graph,
     geometry: &Geometry,
-) -> Result<Vec<Verdict>, VerdictsFault>
+) -> Result<Vec<Verdict>, ViewFault>
     ensures one_each { IfOk result (λ verdicts. length verdicts.items ≡ length graph.now) }
     ensures right { IfOk result (λ verdicts. AreRight graph.now geometry.now verdicts.items) }
     ensures few { IfOk result (λ verdicts. HaveFewInAll (addresses_of graph.now) geometry.now) }
     ensures fault { IfErr result (λ fault. IsFault graph.now geometry.now fault) }
 {
     let marks = fetched_sets(alloc, graph.nodes(), geometry)?;
-    let mut verdicts = unsettled(alloc, graph.nodes().len())?;
+    let mut verdicts = unjudged(alloc, graph.nodes().len())?;
     for set in 0..geometry.sets() {
-        settle_marked(
+        judge_set(
             alloc,
             graph,
             geometry,
@@ -49,33 +41,8 @@ pub fn node_verdicts(
     Ok(verdicts)
 }
 
-impl From<AllocError> for VerdictsFault {
-    ghost use Rattle.std.specs.Prelude.{◌≡◌};
-    ghost use Rattle.node_verdicts.specs.declared.verdicts.VerdictsFault.TheVariants.{OutOfMemory};
-
-    ghost from_gives = { λ _ fault. fault ≡ OutOfMemory };
-
-    fn from(_: AllocError) -> Self {
-        VerdictsFault::OutOfMemory
-    }
-}
-
-impl From<ViewFault> for VerdictsFault {
-    ghost use Rattle.std.specs.Prelude.{◌≡◌};
-    ghost use Rattle.node_verdicts.specs.Verdicts.{of_view};
-
-    ghost from_gives = { λ fault own. own ≡ of_view fault };
-
-    fn from(fault: ViewFault) -> Self {
-        match fault {
-            ViewFault::TooManyBlocks { set, count } => VerdictsFault::TooManyBlocks { set, count },
-            ViewFault::OutOfMemory => VerdictsFault::OutOfMemory,
-        }
-    }
-}
-
-// A place for each node's verdict, to be filled.
-fn unsettled(alloc: Global, count: usize) -> Result<Vec<Verdict>, AllocError>
+// A slot for each node's verdict, to be filled.
+fn unjudged(alloc: Global, count: usize) -> Result<Vec<Verdict>, AllocError>
     ensures { IfOk result (λ verdicts. length verdicts.items ≡ count) }
 {
     let mut verdicts = Vec::with_capacity(alloc, count)?;

@@ -1,5 +1,5 @@
 use Rattle.node_verdicts.specs.Verdicts.{KeepRight, AreRightBelow}
-use Rattle.node_verdicts.proofs.settle.settle_blocks.Given as goal
+use Rattle.node_verdicts.proofs.one_set.judge_blocks.Given as goal
 
 -- what was right is right, and so are the verdicts of the first blocks
 abbrev pub invariant-loop-block : goal.invariant-loop-block

@@ -1,63 +1,44 @@
 // The verdicts of the nodes that fetch one set, block by block.
 ghost use Rattle.std.specs.Prelude.{◌≡◌, ◌<◌, false, length, slice_set, IfErr, OnOk};
 ghost use Rattle.focus_spec.specs.Blocks.{HaveFew};
-ghost use Rattle.set_view.specs.View.{IsView};
-ghost use Rattle.node_verdicts.specs.Verdicts.{KeepRight, AreRightBelow, AreRightIn, AreRightOf, IsFaultOf, IsUnfetched, verdict_of};
+ghost use Rattle.set_view.specs.View.{IsFault, IsView};
+ghost use Rattle.node_verdicts.specs.Verdicts.{KeepRight, AreRightBelow, AreRightIn, AreRightOf, IsUnfetched, verdict_of};
 ghost use Rattle.path_model.specs.Graph.{addresses_of};
 
-use crate::verdicts::VerdictsFault;
 use cache_geom::Geometry;
 use focus_plain::{Classification, Judged, judge};
 use path_model::Graph;
 use report_spec::Verdict;
-use set_view::{SetView, view};
+use set_view::{SetView, ViewFault, view};
 use std::alloc::{AllocError, Global};
 
-// Notes the verdict of each node that fetches the set, which no node does where it has no mark.
-pub(crate) fn settle_marked(
+// Judges each node that fetches the set, which no node does where it has no mark.
+pub(crate) fn judge_set(
     alloc: Global,
     graph: &Graph,
     geometry: &Geometry,
     set: u32,
     marked: bool,
     verdicts: &mut Vec<Verdict>,
-) -> Result<(), VerdictsFault>
+) -> Result<(), ViewFault>
     requires set { set < geometry.now.sets }
     requires marked { marked ≡ false → IsUnfetched graph.now geometry.now set }
     requires one_each { length verdicts.old.items ≡ length graph.now }
     ensures keeps { KeepRight graph.now geometry.now verdicts.old.items verdicts.new.items }
     ensures right { OnOk result (AreRightIn graph.now geometry.now set verdicts.new.items) }
     ensures few { OnOk result (HaveFew (addresses_of graph.now) geometry.now set) }
-    ensures fault { IfErr result (λ fault. IsFaultOf graph.now geometry.now set fault) }
+    ensures fault { IfErr result (λ fault. IsFault graph.now geometry.now set fault) }
 {
     if !marked {
         return Ok(());
     }
-    settle_set(alloc, graph, geometry, set, verdicts)
-}
-
-// Notes the verdict of each node that fetches the set.
-fn settle_set(
-    alloc: Global,
-    graph: &Graph,
-    geometry: &Geometry,
-    set: u32,
-    verdicts: &mut Vec<Verdict>,
-) -> Result<(), VerdictsFault>
-    requires set { set < geometry.now.sets }
-    requires one_each { length verdicts.old.items ≡ length graph.now }
-    ensures keeps { KeepRight graph.now geometry.now verdicts.old.items verdicts.new.items }
-    ensures right { OnOk result (AreRightIn graph.now geometry.now set verdicts.new.items) }
-    ensures few { OnOk result (HaveFew (addresses_of graph.now) geometry.now set) }
-    ensures fault { IfErr result (λ fault. IsFaultOf graph.now geometry.now set fault) }
-{
     let view = view(alloc, graph, geometry, set)?;
-    settle_blocks(alloc, &view, verdicts)?;
+    judge_blocks(alloc, &view, verdicts)?;
     Ok(())
 }
 
-// Notes the verdict of each node that fetches a block of the view.
-fn settle_blocks(
+// Judges each node that fetches a block of the view.
+fn judge_blocks(
     alloc: Global,
     view: &SetView,
     verdicts: &mut Vec<Verdict>,
@@ -68,13 +49,13 @@ fn settle_blocks(
     ensures right { OnOk result (AreRightBelow view.now (length view.now.blocks) verdicts.new.items) }
 {
     for block in 0..view.blocks().len() as u16 {
-        settle_block(alloc, view, block, verdicts)?;
+        judge_block(alloc, view, block, verdicts)?;
     }
     Ok(())
 }
 
-// Notes the verdict of each node that fetches the block.
-fn settle_block(
+// Judges each node that fetches the block.
+fn judge_block(
     alloc: Global,
     view: &SetView,
     block: u16,

@@ -1,8 +1,8 @@
 use Rattle.std.proofs.Common.{length}
 use Rattle.std.specs.List.{All}
 use Rattle.node_verdicts.specs.Verdicts.{KeepRight}
-use Rattle.node_verdicts.specs.Settled.{IsJudged, AreNoted}
-use Rattle.node_verdicts.proofs.settle.settle_block.Given as goal
+use Rattle.node_verdicts.specs.Noted.{IsJudged, AreNoted}
+use Rattle.node_verdicts.proofs.one_set.judge_block.Given as goal
 
 -- what is left is right, and each node that was judged has its verdict or is left
 abbrev pub invariant-loop-judged : goal.invariant-loop-judged
