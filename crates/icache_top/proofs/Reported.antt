@@ -17,8 +17,8 @@ use Rattle.command_spec.specs.declared.settings.ReportAsk.{ReportAsk}
 use Rattle.focus_spec.specs.Blocks.{HaveFewInAll, HaveMany}
 use Rattle.node_verdicts.specs.Verdicts.{AreRight, IsFault}
 use Rattle.path_model.specs.Graph.{addresses_of as node_addresses}
-use Rattle.node_verdicts.specs.declared.verdicts.VerdictsFault.{VerdictsFault}
-use Rattle.node_verdicts.specs.declared.verdicts.VerdictsFault.TheVariants as faults
+use Rattle.node_verdicts.specs.ViewFault.{ViewFault}
+use Rattle.node_verdicts.specs.ViewFault.TheVariants as faults
 use Rattle.report_lines.specs.Findings.{IsWithin, AreFindings}
 use Rattle.report_lines.proofs.Made.{report}
 use Rattle.icache_top.specs.Lines.{SendsAll}
@@ -36,7 +36,7 @@ zipped_addresses step all (c ∷ configurations) (node ∷ nodes) zipped =
     ∙ ap (λ (rest : List ℕ). c.at ∷ rest) (zipped_addresses step all configurations nodes zipped.1)
 
 -- verdicts that were found stay so as a status would be handed on
-pub settled_ok : {V : Type 0} (found : Result V VerdictsFault) (verdicts : V) → settled_as found ≡ Ok verdicts → found ≡ Ok verdicts
+pub settled_ok : {V : Type 0} (found : Result V ViewFault) (verdicts : V) → settled_as found ≡ Ok verdicts → found ≡ Ok verdicts
 settled_ok (Ok other) verdicts is = let same : other ≡ verdicts = cc is in ap Ok same
 settled_ok (Err (faults.TooManyBlocks set count)) verdicts is = absurd (cc is)
 settled_ok (Err faults.OutOfMemory) verdicts is = absurd (cc is)
@@ -56,7 +56,7 @@ module _ (image : Image) (entry : ℕ) (ask : ReportAsk) (expanded : Expansion)
       ∙ ap (λ (cs : List Configuration). map (λ (c : Configuration). c.at) cs) accepted.2
 
   -- a set has too many blocks
-  pub many : (fault : VerdictsFault) → IsFault expanded.nodes ask.geometry fault
+  pub many : (fault : ViewFault) → IsFault expanded.nodes ask.geometry fault
       → IsManyFault (λ set count. IsAcceptedWith image entry (λ layers. IsTooMuchFor (Report ask) layers set count)) fault
   many (faults.TooManyBlocks set count) is =
       (accepted.0, accepted.1, subst (λ (addresses : List ℕ). HaveMany addresses ask.geometry set count) addresses_same is)
@@ -92,7 +92,7 @@ module _ (image : Image) (entry : ℕ) (ask : ReportAsk) (expanded : Expansion)
   )
 
   -- what the search for verdicts found of the graph's nodes, where it found some
-  module _ {V : Type 0} (items : V → List Verdict) (nodes : List Node) (result : Result V VerdictsFault) (kept : V) (now : List Verdict)
+  module _ {V : Type 0} (items : V → List Verdict) (nodes : List Node) (result : Result V ViewFault) (kept : V) (now : List Verdict)
       (was : settled_as result ≡ Ok kept) (is_now : now ≡ items kept) (same : nodes ≡ expanded.nodes) (within : IsWithin image)
       (one_each : IfOk result (λ v. length (items v) ≡ length nodes)) (right : IfOk result (λ v. AreRight nodes ask.geometry (items v))) where
     -- its findings are right

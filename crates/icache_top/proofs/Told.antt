@@ -10,8 +10,8 @@ use Rattle.flow_spec.specs.declared.fault.FlowFault.{FlowFault}
 use Rattle.flow_spec.specs.declared.fault.FlowFault.TheVariants as flow
 use Rattle.flow_spec.specs.Acceptance.{IsRefused}
 use Rattle.flow_spec.specs.Successors.{successors}
-use Rattle.node_verdicts.specs.declared.verdicts.VerdictsFault.{VerdictsFault}
-use Rattle.node_verdicts.specs.declared.verdicts.VerdictsFault.TheVariants as faults
+use Rattle.node_verdicts.specs.ViewFault.{ViewFault}
+use Rattle.node_verdicts.specs.ViewFault.TheVariants as faults
 use Rattle.command_spec.specs.declared.settings.Settings.{Settings}
 use Rattle.byte_port.specs.declared.SinkFault.{SinkFault}
 use Rattle.byte_port.specs.declared.SinkFault.TheVariants as sinks
@@ -89,13 +89,13 @@ elf_told settings file s fault r fails gives =
     subst P (sym (status_is r (of_elf fault) gives)) (file_told settings file s fault fails)
 
 -- too many blocks of a set are fetched, or memory was wanted
-abbrev pub IsManyFault : (ℕ → ℕ → Type 0) → VerdictsFault → Type 0
+abbrev pub IsManyFault : (ℕ → ℕ → Type 0) → ViewFault → Type 0
 IsManyFault HasMany (faults.TooManyBlocks set count) = HasMany set count
 IsManyFault HasMany faults.OutOfMemory = Unit {0}
 
 -- why the nodes of a program have no verdicts, as a status
 pub settled_told : {V : Type 0} (Refused : FlowFault → Type 0) (HasMany : ℕ → ℕ → Type 0) (IsWanted : List ℕ → Type 0) (s : Option (List ℕ))
-    → (found : Result V VerdictsFault) (status : Status) → settled_as found ≡ Err status → IfErr found (IsManyFault HasMany)
+    → (found : Result V ViewFault) (status : Status) → settled_as found ≡ Err status → IfErr found (IsManyFault HasMany)
     → ToldOf Refused HasMany IsWanted status s s
 settled_told Refused HasMany IsWanted s (Ok verdicts) status is many = absurd (cc is)
 settled_told Refused HasMany IsWanted s (Err (faults.TooManyBlocks set count)) status is many =

@@ -23,8 +23,8 @@ use Rattle.command_spec.specs.declared.settings.Ask.TheVariants.{Report, Graph}
 use Rattle.command_spec.specs.declared.settings.Settings.{Settings}
 use Rattle.command_spec.specs.Settings.{settings_of}
 use Rattle.one_answer.specs.Alike.{AreAlikeTexts}
-use Rattle.node_verdicts.specs.declared.verdicts.VerdictsFault.{VerdictsFault}
-use Rattle.node_verdicts.specs.declared.verdicts.VerdictsFault.TheVariants as faults
+use Rattle.node_verdicts.specs.ViewFault.{ViewFault}
+use Rattle.node_verdicts.specs.ViewFault.TheVariants as faults
 use Rattle.top_words.specs.declared.status.Status.{Status}
 use Rattle.top_words.specs.declared.status.Status.TheVariants.{Done, Usage, OutOfMemory, ReadFault, WriteFault, FileTooBig, Elf, Flow, TooManyBlocks}
 
@@ -159,7 +159,7 @@ AreSameFor (Report ask) text other = AreAlikeTexts text other
 AreSameFor Graph text other = text ≡ other
 
 -- the verdicts of nodes or why there are none, as a status
-abbrev pub settled_as : {V : Type 0} → Result V VerdictsFault → Result V Status
+abbrev pub settled_as : {V : Type 0} → Result V ViewFault → Result V Status
 settled_as (Ok verdicts) = Ok verdicts
 settled_as (Err (faults.TooManyBlocks set count)) = Err (TooManyBlocks set count)
 settled_as (Err faults.OutOfMemory) = Err OutOfMemory

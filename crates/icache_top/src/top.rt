@@ -15,7 +15,7 @@ use byte_port::{Sink, Source, read_all};
 use call_expand::expand;
 use command_spec::{Ask, ReportAsk, Settings};
 use elf_image::Image;
-use node_verdicts::{VerdictsFault, node_verdicts};
+use node_verdicts::{ViewFault, node_verdicts};
 use std::alloc::Global;
 use std::thread::Threads;
 use top_words::{explain, read_words};
@@ -175,14 +175,14 @@ fn graph<O: Sink>(alloc: Global, out: &mut O, image: &Image, entry: u32) -> Resu
 }
 
 /// The verdicts that were found, or why there are none, as a status.
-fn settled(found: Result<Vec<Verdict>, VerdictsFault>) -> Result<Vec<Verdict>, Status>
+fn settled(found: Result<Vec<Verdict>, ViewFault>) -> Result<Vec<Verdict>, Status>
     ensures { result ≡ settled_as found }
 {
     match found {
         Ok(verdicts) => Ok(verdicts),
-        Err(VerdictsFault::TooManyBlocks { set, count }) => {
+        Err(ViewFault::TooManyBlocks { set, count }) => {
             Err(Status::TooManyBlocks { set, count })
         }
-        Err(VerdictsFault::OutOfMemory) => Err(Status::OutOfMemory),
+        Err(ViewFault::OutOfMemory) => Err(Status::OutOfMemory),
     }
 }
