@@ -8,7 +8,8 @@ use Rattle.std.proofs.lemmas.List.{places, same_lists, drop-replicate}
 use Rattle.std.proofs.lemmas.Bool.{cases_eq, ne_eqb}
 use Rattle.std.proofs.lemmas.List.Sums.{prefix_len-le-length}
 use Rattle.cache_spec.specs.Lru.{touch, is_in}
-use Rattle.cache_spec.specs.Distinct.{AreDistinct, others, others-absent, fetched-distinct, is_in-take}
+use Rattle.cache_spec.specs.Distinct.{AreDistinct}
+use Rattle.cache_spec.proofs.Distinct.{others, others-absent, fetched-distinct, is_in-take}
 use Rattle.cache_geom.specs.LruSet.{IsSound}
 use Rattle.cache_geom.specs.Slots.{length-blocks}
 

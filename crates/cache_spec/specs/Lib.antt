@@ -3,3 +3,4 @@ pub mod Lru
 pub mod Distinct
 pub mod Contents
 pub mod Verdict
+pub mod Blocks

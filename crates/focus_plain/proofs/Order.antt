@@ -8,7 +8,7 @@ use Rattle.set_list.specs.SetList.{IsSubset}
 use Rattle.focus_spec.specs.Younger.{with_number, after, younger, is_small, fetch_at}
 use Rattle.focus_spec.specs.Focus.{younger_after}
 use Rattle.set_list.specs.RisingSets.{rising-empty, subset-short}
-use Rattle.focus_spec.specs.WithNumber.{Contains-with_number, rising-with_number}
+use Rattle.focus_spec.proofs.WithNumber.{Contains-with_number, rising-with_number}
 use Rattle.set_view.specs.View.{View}
 use Rattle.focus_plain.specs.Cut.{cut, IsBelow, left_by, behind}
 

@@ -3,7 +3,7 @@ use Rattle.std.proofs.Common.{◌≡◌, ℕ, ◌+◌, ◌<◌, ◌≤◌, ◌�
 use Rattle.std.specs.List.{Contains}
 use Rattle.std.specs.List.Sorted.{IsStrictlyIncreasing}
 use Rattle.focus_spec.specs.Younger.{with_number}
-use Rattle.focus_spec.specs.WithNumber.{Contains-with_number, length-with_number, with_number-present}
+use Rattle.focus_spec.proofs.WithNumber.{Contains-with_number, length-with_number, with_number-present}
 use Rattle.focus_plain.specs.declared.reach.Reach.{Reach}
 use Rattle.focus_plain.specs.Cut.{cut, IsBelow}
 use Rattle.focus_plain.specs.Entries.{with_more, set_at, reached_set}

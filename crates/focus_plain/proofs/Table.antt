@@ -5,7 +5,7 @@ use Rattle.std.proofs.lemmas.List.{get_or_append_left, get_or_push, length_push}
 use Rattle.std.specs.List.{Contains}
 use Rattle.std.specs.List.Sorted.{IsStrictlyIncreasing}
 use Rattle.focus_spec.specs.Younger.{with_number}
-use Rattle.focus_spec.specs.WithNumber.{with_number_from_members}
+use Rattle.focus_spec.proofs.WithNumber.{with_number_from_members}
 use Rattle.focus_plain.specs.declared.reach.Reach.{Reach}
 use Rattle.focus_plain.specs.Entries.{with_more, set_at, reached_set, IsPlace, IsReachable}
 use Rattle.focus_plain.specs.Search.{IsLonger, Grows, AreRising}

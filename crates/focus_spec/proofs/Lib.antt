@@ -2,3 +2,4 @@ mod Recency
 mod Stack
 pub mod Renamed
 mod Since
+pub mod WithNumber

@@ -4,7 +4,8 @@ use Rattle.std.proofs.lemmas.Grind.{common_steps}
 use Rattle.std.proofs.lemmas.Bool.{cases_eq, ne_eqb}
 use Rattle.std.proofs.lemmas.Bool.Decides.{nat_tests}
 use Rattle.cache_spec.specs.Lru.{is_in}
-use Rattle.cache_spec.specs.Distinct.{AreDistinct, others, others-absent, is_in-take}
+use Rattle.cache_spec.specs.Distinct.{AreDistinct}
+use Rattle.cache_spec.proofs.Distinct.{others, others-absent, is_in-take}
 use Rattle.focus_spec.specs.Younger.{is_small}
 
 -- how many others there are

@@ -6,7 +6,7 @@ use Rattle.std.proofs.lemmas.List.Kept.{AllPairs-from_increasing}
 use Rattle.std.specs.List.Sorted.{IsStrictlyIncreasing}
 use Rattle.set_list.specs.Rising.{Contains-front}
 use Rattle.focus_spec.specs.Younger.{with_number, after, younger, named}
-use Rattle.focus_spec.specs.WithNumber.{with_number-below, with_number-first, with_number-above, Contains-with_number}
+use Rattle.focus_spec.proofs.WithNumber.{with_number-below, with_number-first, with_number-above, Contains-with_number}
 
 -- each number of the list is the place of a block
 abbrev ArePlaces : List ℕ → List ℕ → Type 0

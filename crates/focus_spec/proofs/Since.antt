@@ -5,7 +5,7 @@ use Rattle.std.proofs.lemmas.List.Elements.{Contains-append_right}
 use Rattle.std.proofs.lemmas.Option.{none-some}
 use Rattle.set_list.specs.Rising.{Contains-front}
 use Rattle.focus_spec.specs.Younger.{with_number, younger}
-use Rattle.focus_spec.specs.WithNumber.{Contains-with_number}
+use Rattle.focus_spec.proofs.WithNumber.{Contains-with_number}
 use Rattle.focus_spec.proofs.Renamed.{after-own, after-other}
 
 -- two values are the same where each is something

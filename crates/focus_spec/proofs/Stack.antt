@@ -8,10 +8,12 @@ use Rattle.std.specs.List.Sorted.{IsStrictlyIncreasing}
 use Rattle.cache_spec.specs.Contents.{contents}
 use Rattle.cache_spec.specs.Geometry.{Geometry, block_of, set_of}
 use Rattle.cache_spec.specs.Lru.{touch, is_in}
-use Rattle.cache_spec.specs.Distinct.{AreDistinct, others, is_in-others, fetched-distinct}
-use Rattle.focus_spec.specs.Younger.{with_number, after, younger, is_small, block_in}
+use Rattle.cache_spec.specs.Distinct.{AreDistinct}
+use Rattle.cache_spec.proofs.Distinct.{others, is_in-others, fetched-distinct}
+use Rattle.focus_spec.specs.Younger.{with_number, after, younger, is_small}
+use Rattle.cache_spec.specs.Blocks.{block_in}
 use Rattle.set_list.specs.RisingSets.{rising-empty}
-use Rattle.focus_spec.specs.WithNumber.{with_number-below, with_number-first, with_number-above, rising-with_number, with_number-present, length-with_number}
+use Rattle.focus_spec.proofs.WithNumber.{with_number-below, with_number-first, with_number-above, rising-with_number, with_number-present, length-with_number}
 use Rattle.focus_spec.proofs.Recency.{length-others, take-others, before, is_in-before, before-others}
 
 -- all blocks that were fetched, each once, the last fetched first

@@ -3,5 +3,3 @@ pub use Rattle.path_model.specs.Graph
 pub mod Younger
 pub mod Focus
 pub mod Fate
-pub mod Blocks
-pub mod WithNumber

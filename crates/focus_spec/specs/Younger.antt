@@ -2,7 +2,6 @@
 -- Monniaux and Reineke 2019. A list of fetches stands with its last one first; each is told by the number of the block
 -- that it fetches, and None where that is a block of another set.
 use Rattle.std.specs.Prelude.{ℕ, ◌==◌, if◌then◌else◌, Bool, false, nat_lt, List, [], ◌∷◌, length, Option, Some, None, option_map, slice_index_or}
-use Rattle.cache_spec.specs.Geometry.{Geometry, block_of, set_of}
 
 -- the numbers and x, where they rise: x stands in its place, once
 abbrev pub with_number : ℕ → List ℕ → List ℕ
@@ -23,14 +22,6 @@ younger block (fetch ∷ earlier) = after block fetch (younger block earlier)
 abbrev pub is_small : ℕ → Option (List ℕ) → Bool
 is_small ways None = false
 is_small ways (Some set) = nat_lt (length set) ways
-
--- the block that an address lies in, where that is a block of the set
-abbrev pub block_in : Geometry → ℕ → ℕ → Option ℕ
-block_in g set address = if set_of g (block_of g address) == set then Some (block_of g address) else None
-
--- the most blocks of a set that an analysis takes
-abbrev pub block_limit : ℕ
-block_limit = 1024
 
 -- the block with a local number among the blocks of a set
 abbrev pub named : List ℕ → ℕ → ℕ

@@ -4,7 +4,8 @@ ghost use Rattle.std.specs.List.{Contains};
 ghost use Rattle.std.specs.List.Sorted.{IsStrictlyIncreasing};
 ghost use Rattle.cache_spec.specs.Geometry.{Geometry, block_of, set_of};
 ghost use Rattle.cache_spec.specs.Contents.{ends_in_hit};
-ghost use Rattle.focus_spec.specs.Younger.{younger, is_small, block_in, named};
+ghost use Rattle.focus_spec.specs.Younger.{younger, is_small, named};
+ghost use Rattle.cache_spec.specs.Blocks.{block_in};
 
 /// What holds of younger sets: a list of fetches ends in a hit exactly where the younger set of its last block has fewer
 /// blocks than a set has ways; a younger set rises; it names the same blocks, whether they are told by themselves or by

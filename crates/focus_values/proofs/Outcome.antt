@@ -12,7 +12,7 @@ use Rattle.plain_family.specs.Family.{IsWith}
 use Rattle.plain_family.proofs.Smaller.{IsWith-unique}
 use Rattle.focus_spec.specs.Younger.{with_number, after, fetch_at}
 use Rattle.focus_spec.specs.Focus.{younger_after}
-use Rattle.focus_spec.specs.WithNumber.{Contains-with_number, rising-with_number}
+use Rattle.focus_spec.proofs.WithNumber.{Contains-with_number, rising-with_number}
 use Rattle.focus_values.specs.Marks.{Setting, Mark, marks_of, framework_of}
 use Rattle.focus_values.specs.MarkLaws.{marks_within}
 use Rattle.focus_values.specs.Families.{IsLeastAfter, AreMostAfter}

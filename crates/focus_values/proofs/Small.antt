@@ -6,7 +6,7 @@ use Rattle.set_list.specs.Rising.{Contains-front}
 use Rattle.plain_family.specs.Family.{IsWith}
 use Rattle.plain_family.proofs.Smaller.{IsWith-unique}
 use Rattle.focus_spec.specs.Younger.{with_number}
-use Rattle.focus_spec.specs.WithNumber.{Contains-with_number, rising-with_number, with_number-present, length-with_number}
+use Rattle.focus_spec.proofs.WithNumber.{Contains-with_number, rising-with_number, with_number-present, length-with_number}
 use Rattle.focus_values.specs.Sets.{rises, without}
 use Rattle.focus_values.proofs.SetFacts.{rises-rising, rises-within, rises_from_rising}
 use Rattle.focus_values.specs.Marks.{Setting, is_set}

@@ -7,7 +7,7 @@ use Rattle.flow_spec.specs.declared.fault.FlowFault.{FlowFault}
 use Rattle.flow_spec.specs.Acceptance.{IsRefused}
 use Rattle.flow_spec.specs.Configuration.{Configuration}
 use Rattle.flow_spec.specs.Successors.{successors}
-use Rattle.focus_spec.specs.Blocks.{HaveMany}
+use Rattle.cache_spec.specs.Blocks.{HaveMany}
 use Rattle.command_spec.specs.declared.settings.Settings.{Settings}
 use Rattle.command_spec.specs.declared.settings.Ask.{Ask}
 use Rattle.command_spec.specs.declared.settings.Ask.TheVariants.{Report, Graph}

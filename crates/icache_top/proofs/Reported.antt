@@ -14,7 +14,7 @@ use Rattle.report_spec.specs.Text.{text_of}
 use Rattle.call_expand.specs.Expansion.{Expansion, IsNodeOf, IsGraphOf}
 use Rattle.command_spec.specs.declared.settings.Ask.TheVariants.{Report}
 use Rattle.command_spec.specs.declared.settings.ReportAsk.{ReportAsk}
-use Rattle.focus_spec.specs.Blocks.{HaveFewInAll, HaveMany}
+use Rattle.cache_spec.specs.Blocks.{HaveFewInAll, HaveMany}
 use Rattle.node_verdicts.specs.Verdicts.{AreRight, IsFault}
 use Rattle.path_model.specs.Graph.{addresses_of as node_addresses}
 use Rattle.node_verdicts.specs.ViewFault.{ViewFault}

@@ -11,7 +11,7 @@ use Rattle.byte_port.specs.declared.SinkFault.TheVariants as sinks
 use Rattle.elf_spec.specs.Image.{Image, image_of}
 use Rattle.elf_spec.specs.declared.fault.ElfFault.{ElfFault}
 use Rattle.transition_spec.specs.Layer.{all_of}
-use Rattle.focus_spec.specs.Blocks.{HaveFewInAll, HaveMany}
+use Rattle.cache_spec.specs.Blocks.{HaveFewInAll, HaveMany}
 use Rattle.flow_spec.specs.declared.fault.FlowFault.{FlowFault}
 use Rattle.flow_spec.specs.Configuration.{Configuration}
 use Rattle.flow_spec.specs.Acceptance.{IsAccepted, IsRefused}

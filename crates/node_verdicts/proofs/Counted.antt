@@ -6,9 +6,9 @@ use Rattle.std.proofs.lemmas.Bool.Decides.{nat_tests}
 use Rattle.cache_spec.specs.Geometry.{Geometry, block_of, set_of}
 use Rattle.path_model.specs.declared.graph.Node.{Node}
 use Rattle.path_model.specs.Graph.{address_of, addresses_of}
-use Rattle.focus_spec.specs.Younger.{block_in, named, fetch_at}
+use Rattle.focus_spec.specs.Younger.{named, fetch_at}
 use Rattle.set_view.specs.View.{View, IsView}
-use Rattle.focus_spec.specs.Blocks.{HaveFew}
+use Rattle.cache_spec.specs.Blocks.{block_in, HaveFew}
 use Rattle.node_verdicts.specs.Verdicts.{set_at}
 
 -- an address is that of a node

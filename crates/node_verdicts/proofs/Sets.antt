@@ -5,7 +5,7 @@ use Rattle.std.proofs.lemmas.Bool.Decides.{nat_tests}
 use Rattle.cache_spec.specs.Geometry.{Geometry}
 use Rattle.path_model.specs.declared.graph.Node.{Node}
 use Rattle.report_spec.specs.declared.line.Verdict.{Verdict}
-use Rattle.focus_spec.specs.Blocks.{HaveFew}
+use Rattle.cache_spec.specs.Blocks.{HaveFew}
 use Rattle.path_model.specs.Graph.{addresses_of}
 use Rattle.node_verdicts.specs.Verdicts.{KeepRight, AreRightIn}
 

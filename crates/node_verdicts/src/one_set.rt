@@ -1,6 +1,6 @@
 // The verdicts of the nodes that fetch one set, block by block.
 ghost use Rattle.std.specs.Prelude.{◌≡◌, ◌<◌, false, length, slice_set, IfErr, OnOk};
-ghost use Rattle.focus_spec.specs.Blocks.{HaveFew};
+ghost use Rattle.cache_spec.specs.Blocks.{HaveFew};
 ghost use Rattle.set_view.specs.View.{IsFault, IsView};
 ghost use Rattle.node_verdicts.specs.Verdicts.{KeepRight, AreRightBelow, AreRightIn, AreRightOf, IsUnfetched, verdict_of};
 ghost use Rattle.path_model.specs.Graph.{addresses_of};

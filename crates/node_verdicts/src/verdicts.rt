@@ -1,6 +1,6 @@
 // The verdicts of all nodes, set by set.
 ghost use Rattle.std.specs.Prelude.{◌≡◌, length, IfOk, IfErr};
-ghost use Rattle.focus_spec.specs.Blocks.{HaveFewInAll};
+ghost use Rattle.cache_spec.specs.Blocks.{HaveFewInAll};
 ghost use Rattle.path_model.specs.Graph.{addresses_of};
 ghost use Rattle.node_verdicts.specs.Verdicts.{AreRight, IsFault};
 

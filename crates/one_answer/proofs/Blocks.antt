@@ -2,7 +2,7 @@
 use Rattle.std.proofs.Common.{◌≡◌, ℕ, ◌<◌, ◌≤◌, List, length, ap, subst, arith, ⊎_elim}
 use Rattle.std.proofs.lemmas.Bool.{cases_lt}
 use Rattle.cache_spec.specs.Geometry.{Geometry}
-use Rattle.focus_spec.specs.Blocks.{HaveBlocks, HaveFew, HaveFewInAll, HaveMany}
+use Rattle.cache_spec.specs.Blocks.{HaveBlocks, HaveFew, HaveFewInAll, HaveMany}
 use Rattle.one_answer.proofs.Listed.{same_rising}
 
 module _ (addresses : List ℕ) (g : Geometry) where

@@ -9,8 +9,7 @@ use Rattle.std.proofs.lemmas.Cmp.{nat_cmp_total}
 use Rattle.std.proofs.lemmas.Map.Keys.{IsStrictlyIncreasing-from_sorted}
 use Rattle.list_lemmas.proofs.Members.{has-none, has-first, has-only}
 use Rattle.cache_spec.specs.Geometry.{Geometry}
-use Rattle.focus_spec.specs.Younger.{block_in, block_limit}
-use Rattle.focus_spec.specs.Blocks.{LieIn, HaveBlocks, HaveFew, HaveFewInAll, HaveMany}
+use Rattle.cache_spec.specs.Blocks.{block_in, block_limit, LieIn, HaveBlocks, HaveFew, HaveFewInAll, HaveMany}
 use Rattle.call_expand.proofs.Ordered.{nat_equal}
 use Rattle.one_answer.proofs.FlatMapped.{has-flat_map, from-flat_map}
 use Rattle.one_answer.proofs.InOrder.{rest_of}

@@ -11,7 +11,7 @@ ghost use Rattle.flow_spec.specs.declared.fault.FlowFault.{FlowFault};
 ghost use Rattle.flow_spec.specs.Acceptance.{Step, IsAccepted, IsRefused};
 ghost use Rattle.flow_spec.specs.Configuration.{Configuration, start_of};
 ghost use Rattle.flow_spec.specs.Successors.{successors};
-ghost use Rattle.focus_spec.specs.Blocks.{HaveFewInAll, HaveMany};
+ghost use Rattle.cache_spec.specs.Blocks.{HaveFewInAll, HaveMany};
 ghost use Rattle.report_spec.specs.declared.line.Line.{Line};
 ghost use Rattle.report_spec.specs.Graph.{IsGraphText};
 ghost use Rattle.report_spec.specs.HasText.{HasText};

@@ -11,7 +11,8 @@ use Rattle.cache_spec.specs.Geometry.{Geometry, block_of, set_of}
 use Rattle.cache_spec.specs.Contents.{ends_in_hit}
 use Rattle.path_model.specs.declared.graph.Node.{Node}
 use Rattle.path_model.specs.Graph.{IsGraph, graph_step, address_of}
-use Rattle.focus_spec.specs.Younger.{younger, is_small, block_in, named, fetch_at}
+use Rattle.focus_spec.specs.Younger.{younger, is_small, named, fetch_at}
+use Rattle.cache_spec.specs.Blocks.{block_in}
 use Rattle.focus_spec.specs.Focus.{younger_after}
 use Rattle.set_view.specs.View.{View, IsView}
 use Rattle.set_view.proofs.Renamed.{path-inside, map-block_in, fetched-within, is_small-renamed, block_in-Some}

@@ -11,8 +11,8 @@ use Rattle.std.proofs.lemmas.Option.{none-some}
 use Rattle.cache_spec.specs.Geometry.{Geometry}
 use Rattle.path_model.specs.declared.graph.Node.{Node}
 use Rattle.path_model.specs.Graph.{IsGraph, address_of, addresses_of}
-use Rattle.focus_spec.specs.Younger.{block_in, block_limit, named, fetch_at}
-use Rattle.focus_spec.specs.Blocks.{AreBlocks}
+use Rattle.focus_spec.specs.Younger.{named, fetch_at}
+use Rattle.cache_spec.specs.Blocks.{block_in, block_limit, AreBlocks}
 use Rattle.set_view.specs.View.{IsView}
 use Rattle.set_view.specs.Places.{place_of, local_at}
 use Rattle.set_view.proofs.Rising.{place_of-found}

@@ -5,8 +5,7 @@ use Rattle.list_lemmas.proofs.Members.{has-none, has-first, has-later, has-cases
 use Rattle.cache_spec.specs.Geometry.{Geometry}
 use Rattle.path_model.specs.declared.graph.Node.{Node}
 use Rattle.path_model.specs.Graph.{address_of, addresses_of}
-use Rattle.focus_spec.specs.Younger.{block_in}
-use Rattle.focus_spec.specs.Blocks.{LieIn}
+use Rattle.cache_spec.specs.Blocks.{block_in, LieIn}
 
 -- the blocks that the nodes fetch, one for each fetch
 abbrev pub blocks_of : List Node → Geometry → ℕ → List ℕ

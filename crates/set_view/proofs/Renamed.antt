@@ -9,7 +9,8 @@ use Rattle.transition_spec.specs.Path.{IsPath, IsSuccessor}
 use Rattle.cache_spec.specs.Geometry.{Geometry, block_of, set_of}
 use Rattle.path_model.specs.declared.graph.Node.{Node}
 use Rattle.path_model.specs.Graph.{IsGraph, graph_step, address_of}
-use Rattle.focus_spec.specs.Younger.{is_small, block_in, named, fetch_at}
+use Rattle.focus_spec.specs.Younger.{is_small, named, fetch_at}
+use Rattle.cache_spec.specs.Blocks.{block_in}
 use Rattle.set_view.specs.View.{View, IsView}
 
 -- each of these members is the number of a node

@@ -3,7 +3,7 @@ use Rattle.std.specs.Prelude.{ℕ, nat_eq, List, Option, option_and_then}
 use Rattle.std.specs.List.{position}
 use Rattle.cache_spec.specs.Geometry.{Geometry}
 use Rattle.path_model.specs.declared.graph.Node.{Node}
-use Rattle.focus_spec.specs.Younger.{block_in}
+use Rattle.cache_spec.specs.Blocks.{block_in}
 
 -- the place of a block among the blocks
 abbrev pub place_of : List ℕ → ℕ → Option ℕ

@@ -3,8 +3,8 @@ use Rattle.std.specs.Prelude.{◌≡◌, ℕ, ◌<◌, ◌≤◌, List, length, 
 use Rattle.cache_spec.specs.Geometry.{Geometry}
 use Rattle.path_model.specs.declared.graph.Node.{Node}
 use Rattle.path_model.specs.Graph.{IsGraph, address_of, addresses_of}
-use Rattle.focus_spec.specs.Younger.{block_in, block_limit, named, fetch_at}
-use Rattle.focus_spec.specs.Blocks.{AreBlocks, HaveBlocks}
+use Rattle.focus_spec.specs.Younger.{named, fetch_at}
+use Rattle.cache_spec.specs.Blocks.{block_in, block_limit, AreBlocks, HaveBlocks}
 use Rattle.set_view.specs.declared.fetched.ViewFault.{ViewFault}
 use Rattle.set_view.specs.declared.fetched.ViewFault.TheVariants.{TooManyBlocks, OutOfMemory}
 

@@ -3,8 +3,8 @@ ghost use Rattle.std.specs.Prelude.{◌≡◌, ◌<◌, ◌≤◌, length, map, 
 ghost use Rattle.std.specs.List.{filter_map};
 ghost use Rattle.std.specs.List.Sorted.{IsStrictlyIncreasing};
 ghost use Rattle.path_model.specs.Graph.{addresses_of};
-ghost use Rattle.focus_spec.specs.Younger.{block_in, fetch_at};
-ghost use Rattle.focus_spec.specs.Blocks.{AreBlocks};
+ghost use Rattle.focus_spec.specs.Younger.{fetch_at};
+ghost use Rattle.cache_spec.specs.Blocks.{block_in, AreBlocks};
 ghost use Rattle.set_view.specs.View.{IsView, IsFault};
 ghost use Rattle.set_view.specs.Places.{place_of, local_at};
 

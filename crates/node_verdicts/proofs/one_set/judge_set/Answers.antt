@@ -1,5 +1,5 @@
 use Rattle.std.proofs.Common.{ℕ, subst}
-use Rattle.focus_spec.specs.Blocks.{HaveFew}
+use Rattle.cache_spec.specs.Blocks.{HaveFew}
 use Rattle.path_model.specs.Graph.{addresses_of}
 use Rattle.node_verdicts.proofs.Counted.{few_unfetched, few_viewed}
 use Rattle.node_verdicts.proofs.Viewed.{right_in}

@@ -1,5 +1,5 @@
 use Rattle.std.proofs.Common.{◌≡◌, ℕ, ◌<◌, length}
-use Rattle.focus_spec.specs.Blocks.{HaveFew}
+use Rattle.cache_spec.specs.Blocks.{HaveFew}
 use Rattle.path_model.specs.Graph.{addresses_of}
 use Rattle.node_verdicts.specs.Verdicts.{AreRightIn}
 use Rattle.node_verdicts.proofs.verdicts.node_verdicts.Given as goal

@@ -1,7 +1,7 @@
 use Rattle.std.proofs.Common.{arith, ap, length, map, subst, List, ◌∙◌}
 use Rattle.path_model.specs.declared.graph.Node.{Node}
 use Rattle.path_model.specs.Graph.{addresses_of}
-use Rattle.focus_spec.specs.Blocks.{AreBlocks}
+use Rattle.cache_spec.specs.Blocks.{AreBlocks}
 use Rattle.set_view.specs.Places.{local_at}
 use Rattle.set_view.proofs.Locals.{view-made}
 use Rattle.set_view.proofs.fetched.view.Goals as goal

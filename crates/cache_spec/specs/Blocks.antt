@@ -1,9 +1,16 @@
 -- Which blocks of a set some addresses lie in, and how many. An analysis of a set takes so many at most.
-use Rattle.std.specs.Prelude.{◌≡◌, ◌↔◌, ℕ, ◌<◌, ◌≤◌, List, length, Some}
+use Rattle.std.specs.Prelude.{◌≡◌, ◌==◌, ◌↔◌, ℕ, ◌<◌, ◌≤◌, List, length, Option, Some, None, if◌then◌else◌}
 use Rattle.std.specs.List.{Contains}
 use Rattle.std.specs.List.Sorted.{IsStrictlyIncreasing}
-use Rattle.cache_spec.specs.Geometry.{Geometry}
-use Rattle.focus_spec.specs.Younger.{block_in, block_limit}
+use Rattle.cache_spec.specs.Geometry.{Geometry, block_of, set_of}
+
+-- the block that an address lies in, where that is a block of the set
+abbrev pub block_in : Geometry → ℕ → ℕ → Option ℕ
+block_in g set address = if set_of g (block_of g address) == set then Some (block_of g address) else None
+
+-- the most blocks of a set that an analysis takes
+abbrev pub block_limit : ℕ
+block_limit = 1024
 
 -- one of the addresses lies in this block of the set
 abbrev pub LieIn : List ℕ → Geometry → ℕ → ℕ → Type 0
@@ -14,7 +21,7 @@ pub record AreBlocks (addresses : List ℕ) (g : Geometry) (set : ℕ) (blocks :
   pub rising : IsStrictlyIncreasing blocks
   pub members : (block : ℕ) → Contains blocks block ↔ LieIn addresses g set block
 
--- the addresses lie in so many blocks of the set
+-- the addresses lie in `count` blocks of the set
 abbrev pub HaveBlocks : List ℕ → Geometry → ℕ → ℕ → Type 0
 HaveBlocks addresses g set count = (blocks : List ℕ) × AreBlocks addresses g set blocks × (length blocks ≡ count)
 
