@@ -73,7 +73,7 @@ impl LruSet {
 
     /// Fetches `block`, and tells whether it hit: the block was among those kept.
     ///
-    /// The block then stands first, and the others behind it in their order; where that is one more than `ways`, the
+    /// The block then stands first, and the others after it in their order; where that is one more than `ways`, the
     /// last is dropped. This is the textbook's LRU replacement. It takes time in the order of `ways`.
     pub fn touch(&mut self, block: u32) -> bool
         ensures hit { result ≡ is_in self.old.blocks block }

@@ -1,4 +1,4 @@
--- Which blocks of a set some addresses lie in, and how many. An analysis of a set takes so many at most.
+-- Which blocks of a set some addresses lie in, and how many. An analysis of a set takes `block_limit` at most.
 use Rattle.std.specs.Prelude.{◌≡◌, ◌==◌, ◌↔◌, ℕ, ◌<◌, ◌≤◌, List, length, Option, Some, None, if◌then◌else◌}
 use Rattle.std.specs.List.{Contains}
 use Rattle.std.specs.List.Sorted.{IsStrictlyIncreasing}

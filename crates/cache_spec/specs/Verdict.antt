@@ -1,4 +1,4 @@
--- The verdict of a set of paths, each of them told by the addresses that it fetches.
+-- The verdict of a set of paths, each given as the addresses that it fetches.
 use Rattle.std.specs.Prelude.{ℕ, List, IsTrue, IsFalse}
 use Rattle.cache_spec.specs.Geometry.{Geometry}
 use Rattle.cache_spec.specs.Contents.{ends_in_hit}

@@ -21,7 +21,7 @@ use Rattle.call_expand.specs.Search.{IsSearched, AreNext, FollowSmaller, IsWalke
 use Rattle.call_expand.proofs.Zipped.{all-append}
 use Rattle.call_expand.proofs.Searched.{begun, first_layer, searched_more, next_layer, layers_more}
 
--- the configuration with a number that is in the front
+-- the configuration with a number that is in the first list
 pub numbered-front : (front back : List Configuration) (n : ℕ) → n < length front
     → numbered (front ++ back) n ≡ numbered front n
 numbered-front front back n below = get_or_append_left front back (start_of 0) n below
@@ -33,7 +33,7 @@ same-successor step b c d e first second follows =
     let Q : Configuration → Type 0 = λ c. IsSuccessor step b c in
     subst P (sym first) (subst Q (sym second) follows)
 
--- one that is listed in the front has a number there
+-- one that is listed in the first list has a number there
 front-number : (front back : List Configuration) (c : Configuration) → Contains front c
     → (n : ℕ) × (n < length front) × (numbered (front ++ back) n ≡ c)
 front-number front back c has =

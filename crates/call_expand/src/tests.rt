@@ -286,7 +286,7 @@ fn calls_are_expanded_up_to_the_limit(rt: HostRuntime) -> Result<(), Fail> {
     Ok(())
 }
 
-// A branch to two calls of one function of so many plain words, linked by x5 and by x1, which returns by x1.
+// A branch to two calls of one function of `plain` other words, linked by x5 and by x1, which returns by x1.
 fn two_calls(alloc: Global, plain: usize) -> Result<Vec<u32>, AllocError> {
     let mut words = [PLAIN, 0x00000463, 0x00c002ef, 0x008000ef, STOP].to_vec(alloc)?;
     for _ in 0..plain {

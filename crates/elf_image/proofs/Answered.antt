@@ -5,7 +5,7 @@ use Rattle.elf_spec.specs.Image.{Image, image_of, answer_of, kept_of, first_faul
 use Rattle.elf_image.specs.Tests.{identity_tests, machine_tests, table_tests, segment_tests}
 use Rattle.elf_image.proofs.Faults.{passed, failed}
 
--- the groups behind the first, and those behind the second
+-- the groups after the first, and those after the second
 abbrev behind_identity : List ℕ → List (Option ElfFault)
 behind_identity file = machine_tests file ++ (table_tests file ++ segment_tests file)
 

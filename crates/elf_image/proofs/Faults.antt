@@ -23,7 +23,7 @@ pub parts : (test : Option ElfFault) (later : List (Option ElfFault)) → first_
 parts None later none = (refl, none)
 parts (Some fault) later none = absurd (none-some fault (sym none))
 
--- no fault is told where no index is found
+-- there is no fault where no index is found
 pub map-None : (f : ℕ → ElfFault) (index : Option ℕ) → option_map f index ≡ None → index ≡ None
 map-None f None none = refl
 map-None f (Some index) none = absurd (none-some (f index) (sym none))

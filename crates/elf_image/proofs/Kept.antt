@@ -7,7 +7,7 @@ use Rattle.elf_spec.specs.declared.segment.Segment.{Segment}
 use Rattle.elf_spec.specs.Header.{header, is_executable}
 use Rattle.elf_spec.specs.Image.{segment_of, placed, in_order}
 
--- the executable segments of so many program headers from an index on
+-- the executable segments of `count` program headers from an index on
 abbrev pub segments_from : List ℕ → ℕ → ℕ → List Segment
 segments_from file index count = map segment_of (filter is_executable (map (header file) (range_with_len index count)))
 
@@ -17,7 +17,7 @@ map_kept : (b : Bool) (h : ProgramHeader) (rest : List ProgramHeader)
 map_kept true h rest = refl
 map_kept false h rest = refl
 
--- one header more in front
+-- one header more before the others
 segments_next : (file : List ℕ) (index count : ℕ)
     → segments_from file index (suc count) ≡ cond (is_executable (header file index)) (segment_of (header file index) ∷ segments_from file (index + 1) count) (segments_from file (index + 1) count)
 segments_next file index count = map_kept (is_executable (header file index)) (header file index) _

@@ -96,14 +96,14 @@ next_here xs p i w d rising within next before = (
 none_behind : (s : Segment) (p : ℕ) → s.at + s.size ≤ p → IsNextIn s p None
 none_behind s p ended = λ n above. and_right _ _ (word_behind s n (omega arith))
 
--- the items behind the first segments, by index
+-- the items after the first segments, by index
 at_place : (xs items : List Segment) (first k : ℕ) (d : Segment) → items ≡ drop first xs → first ≤ k
     → get_or items (k - first) d ≡ get_or xs k d
 at_place xs items first k d behind at =
     let back : first + (k - first) ≡ k = omega arith in
     ap (λ l. get_or l (k - first) d) behind ∙ get_or-drop first xs (k - first) d ∙ ap (λ m. get_or xs m d) back
 
--- no segment has a word where the first ones have ended and some behind them, the first items, have none
+-- no segment has a word where the first ones have ended and some after them, the first items, have none
 none_before : (xs items : List Segment) (p first count k : ℕ) (d : Segment) → AllWithin (λ s. s.at + s.size ≤ p) xs 0 first
     → items ≡ drop first xs → All (λ s. IsNextIn s p None) (take count items) → k < first + count → k < length xs
     → IsNextIn (get_or xs k d) p None
@@ -119,7 +119,7 @@ none_before xs items p first count k d ended behind none below within =
           subst P same (none (k - first) d inside)
     ]
 
--- the word that a walk over the items behind the first segments finds first
+-- the word that a walk over the items after the first segments finds first
 pub next_found : (xs items : List Segment) (p first index w : ℕ) (d : Segment) → AllPairs EndsBefore xs
     → AllWithin (λ s. s.at + s.size ≤ p) xs 0 first → items ≡ drop first xs → index < length items
     → All (λ s. IsNextIn s p None) (take index items) → IsNextIn (get_or items index d) p (Some w) → IsNextAmong xs p (Some w)

@@ -43,7 +43,7 @@ in_order_all P (s ∷ later) all =
 lower_ends : (s next : Segment) → IsApart s next → IsFilled next → s.at ≤ next.at → EndsBefore s next
 lower_ends s next apart filled le = elim apart [ inl before ↦ before | inr behind ↦ absurd (omega arith) ]
 
--- and the one that begins later begins behind the other
+-- and the one that begins later begins after the other
 upper_begins : (s next : Segment) → IsApart s next → IsFilled s → next.at < s.at → EndsBefore next s
 upper_begins s next apart filled lt = elim apart [ inl before ↦ absurd (omega arith) | inr behind ↦ behind ]
 

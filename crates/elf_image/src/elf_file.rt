@@ -169,7 +169,7 @@ impl<'a> ElfFile<'a> {
         (0..self.header.e_phnum).find(|index| is_executable(&self.program_header(*index)))
     }
 
-    /// Whether a program header is executable and its bytes end behind the file's end.
+    /// Whether a program header is executable and its bytes end after the file's end.
     fn is_outside(&self, index: u16) -> bool
         ensures { result ≡ (is_executable (header self.now index) && bytes_outside self.now index) }
     {

@@ -96,7 +96,7 @@ fn covers(segment: &Segment, p: u32) -> bool
     segment.at <= p && p as u64 + 4 <= end_of(segment)
 }
 
-/// The address right behind a segment.
+/// The address right after a segment.
 fn end_of(segment: &Segment) -> u64
     ensures { result ≡ segment.now.at + segment.now.size }
 {

@@ -14,7 +14,7 @@ pub(crate) fn is_executable(header: &ProgramHeader) -> bool
     header.p_type == LOADED && header.p_flags % 2 == 1 && header.p_filesz != 0
 }
 
-/// The address right behind its addresses.
+/// The address right after its addresses.
 pub(crate) fn end_of(header: &ProgramHeader) -> u64
     ensures { result ≡ header.now.p_vaddr + header.now.p_filesz }
 {

@@ -26,7 +26,7 @@ fn loaded(offset: u32, at: u32, size: u32, flags: u32) -> [u32; 8] {
     [1, offset, at, at, size, size, flags, 4]
 }
 
-/// A file of program headers, with words behind them.
+/// A file of program headers, with words after them.
 fn file_of(
     alloc: Global,
     entry: u32,

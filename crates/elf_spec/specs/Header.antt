@@ -37,7 +37,7 @@ e_phentsize file = u16_at file 42
 abbrev pub e_phnum : List ℕ → ℕ
 e_phnum file = u16_at file 44
 
--- the place right behind the program headers
+-- the place right after the program headers
 abbrev pub headers_end : List ℕ → ℕ
 headers_end file = e_phoff file + 32 * e_phnum file
 

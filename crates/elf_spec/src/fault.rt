@@ -32,7 +32,7 @@ pub enum ElfFault {
     /// More than 64 program headers.
     #[error("the file has {count} program headers, more than 64")]
     TooManySegments { count: u16 },
-    /// An executable segment that ends behind the file's end.
+    /// An executable segment that ends after the file's end.
     #[error("segment {index} ends behind the end of the file")]
     SegmentOutside { index: u16 },
     /// An executable segment that ends above the highest address.

@@ -25,7 +25,7 @@ IsFaultless step c = IsOk (step c)
 abbrev pub AreLayers : Step → ℕ → List (List Configuration) → Type 0
 AreLayers step entry layers = AreLayersFrom step (start_of entry) configuration_cmp 0 layers
 
--- behind these layers comes an empty one, and the program is accepted; its configurations are numbered in their order
+-- after these layers comes an empty one, and the program is accepted; its configurations are numbered in their order
 pub record IsAccepted (step : Step) (image : Image) (entry : ℕ) (layers : List (List Configuration)) : Type 0 where
   pub entry_is_good : IsTrue (is_good_target image entry)
   pub are_layers : AreLayers step entry (layers ++ [] ∷ [])

@@ -20,7 +20,7 @@ pub data Transfer : Type 0 where
   stop : Transfer
   illegal : Transfer
 
--- so many bytes from an address on
+-- the address that lies this many bytes further on
 abbrev pub plus : ℕ → ℤ → ℕ
 plus address (pos n) = (address + n) % 2 ^ 32
 plus address (negsuc n) = (address + 2 ^ 32 - (n + 1)) % 2 ^ 32

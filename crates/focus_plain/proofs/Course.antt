@@ -12,13 +12,13 @@ use Rattle.focus_plain.specs.Entries.{seen_at, IsSound, IsCourse, IsBetween, IsS
 use Rattle.focus_plain.specs.Search.{IsLonger}
 use Rattle.focus_plain.proofs.Order.{IsRising, below_trans, below_refl, behind-below, left_by-rising, left_by-more}
 
--- an element of the front
+-- an element of the first list
 pub slice_get-front : {X : Type 0} (xs ys : List X) (k : ℕ) → k < length xs → slice_get (xs ++ ys) k ≡ slice_get xs k
 slice_get-front [] ys k inside = absurd (omega arith)
 slice_get-front (x ∷ xs) ys zero inside = refl
 slice_get-front (x ∷ xs) ys (suc k) inside = slice_get-front xs ys k (omega arith)
 
--- the element behind the front
+-- the element after the first list
 pub slice_get-behind : {X : Type 0} (xs : List X) (y : X) → slice_get (xs ++ y ∷ []) (length xs) ≡ Some y
 slice_get-behind [] y = refl
 slice_get-behind (x ∷ xs) y = slice_get-behind xs y

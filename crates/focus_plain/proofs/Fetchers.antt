@@ -15,7 +15,7 @@ pub record AreFetchersBelow (fetches : List (Option ℕ)) (block count : ℕ) (n
   pub rising : IsStrictlyIncreasing nodes
   pub members : (n : ℕ) → Contains nodes n ↔ ((n < count) × (fetch_at fetches n ≡ Some block))
 
--- a number above all others stands behind them
+-- a number above all others stands after them
 rising-push : (nodes : List ℕ) (last : ℕ) → IsStrictlyIncreasing nodes → ((n : ℕ) → Contains nodes n → n < last) → IsStrictlyIncreasing (nodes ++ last ∷ [])
 rising-push nodes last rising below k inside =
     let long = length_push nodes last in

@@ -117,7 +117,7 @@ behind-below view block n one two rising two_rising below =
 longer : (x : ℕ) (set : List ℕ) → IsStrictlyIncreasing set → length set ≤ length (with_number x set)
 longer x set rising = subset-short set (with_number x set) rising (rising-with_number x set rising) (λ y there. (Contains-with_number x set y).1 (inl there))
 
--- what is cut off before a fetch is cut off behind it
+-- what is cut off before a fetch is cut off after it
 cut-after : (ways block : ℕ) (fetch : Option ℕ) (younger : Option (List ℕ)) → IsRising younger
     → cut ways (after block fetch (cut ways younger)) ≡ cut ways (after block fetch younger)
 cut-after ways block None younger rising = cut-cut ways younger

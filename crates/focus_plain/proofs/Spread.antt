@@ -68,7 +68,7 @@ module _ (view : View) (block : ℕ) (old : Search) (is : IsSearch view block ol
         ∙ slice_get-get_or view.nodes entry.node none node_inside
         ∙ ap (λ (ns : List Node). Some (get_or ns entry.node none)) (sym same)
 
-    -- what is left behind the node
+    -- what is left after the node
     abbrev younger : Option (List ℕ)
     younger = behind view block (node_at (trail_of old.entries.items) index) (seen_at (seen_of old.sets.items old.entries.items) index)
 
@@ -154,7 +154,7 @@ module _ (view : View) (block : ℕ) (old : Search) (is : IsSearch view block ol
                   subst (IsBetween (trail_of new.entries.items) (seen_of new.sets.items new.entries.items) m) (reached_still ∙ value_is) (second_stepped.between m at)
             ]
 
--- what is reached by the numbers that were read is what the node leaves behind
+-- what is reached by the numbers that were read is what the node leaves after
 pub value_from : (view : View) (block n : ℕ) (table sets : List (List ℕ)) (ways : ℕ) (fetch younger : Option ℕ) (reached : Option Reach) → table ≡ sets
     → ways ≡ view.geometry.ways → fetch ≡ fetch_at view.fetches n → reached_set table reached ≡ cut ways (after block fetch (set_at table younger))
     → reached_set sets reached ≡ behind view block n (set_at sets younger)

@@ -9,8 +9,8 @@ use Rattle.focus_plain.specs.declared.ends.Found.{Found}
 use Rattle.focus_plain.specs.Entries.{trail_of, seen_of, latest_at, place_of, IsSpread}
 use Rattle.focus_plain.specs.Search.{IsSearch}
 
--- of the first entries, those with a small younger set, or those with none, by their nodes: each that is told is one,
--- and one is told for each node that has one
+-- of the first entries, those with a small younger set, or those with none, by their nodes: each that is listed is one,
+-- and one is listed for each node that has one
 pub record AreEnds (entries : List Entry) (count : ℕ) (small : Bool) (ends : List (Option ℕ)) : Type 0 where
   pub sound : (n number : ℕ) → latest_at ends n ≡ Some number
       → (number < count) × (node_at (trail_of entries) number ≡ n)

@@ -6,7 +6,7 @@ use Rattle.set_view.specs.View.{View}
 use Rattle.focus_plain.specs.declared.search.Search.{Search}
 use Rattle.focus_plain.specs.Entries.{set_at, IsPlace, trail_of, seen_of, latest_at, next_of, place_of, IsCourse, IsBetween}
 
--- the first list is a front of the second
+-- the first list is a prefix of the second
 abbrev pub IsLonger : {X : Type 0} → List X → List X → Type 0
 IsLonger {X} xs ys = (more : List X) × (ys ≡ xs ++ more)
 

@@ -32,7 +32,7 @@ impl Found {
     }
 }
 
-/// Searches for the block. An error is want of memory.
+/// Searches for the block. The error is out of memory.
 pub(crate) fn find(alloc: Global, view: &SetView, block: u16) -> Result<Found, AllocError>
     ensures block { IfOk result (λ found. found.block ≡ block) }
     ensures found { IfOk result (λ found. IsFound view.now found) }

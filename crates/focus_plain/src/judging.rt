@@ -26,13 +26,13 @@ pub struct Judged {
     pub classification: Classification,
 }
 
-/// What the paths do that end in each node that fetches a block of the set, rising by node. The block is told by its
+/// What the paths do that end in each node that fetches a block of the set, rising by node. The block is given by its
 /// local number.
 ///
 /// It searches the graph once: a path is left out where the younger set that it leaves lies between those of two paths
 /// to its node that were found before. Each of the others is compared with those that were found at the nodes that it
 /// leads to, in time and memory of their number. Ways are made only at nodes with both a hit and a miss. An error is
-/// want of memory, also where more than 4,294,967,295 paths were kept, which take more than 64 GiB.
+/// out of memory, also where more than 4,294,967,295 paths were kept, which take more than 64 GiB.
 pub fn judge(alloc: Global, view: &SetView, block: u16) -> Result<Vec<Judged>, AllocError>
     requires { block < length view.now.blocks }
     ensures nodes { IfOk result (λ judged. AreFetchers view.now.fetches block (map (λ j. j.node) judged.items)) }

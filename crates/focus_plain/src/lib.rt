@@ -1,6 +1,6 @@
 //! What the paths that end in a node do there: hits and misses of a block, borne out by ways.
 //!
-//! A search goes over the paths of a graph, told by the younger sets of one block that they leave, and keeps those
+//! A search goes over the paths of a graph, by the younger sets of one block that they leave, and keeps those
 //! between which all others lie. So `judge` tells for each node that fetches the block whether all paths hit there, all
 //! miss, or some do either, with a way for each, and `settle` gives those ways beside the least and the most younger
 //! sets. Stands on the view of a cache set in `set_view`, the sets of `set_list`, the trails of `path_trail` and the

@@ -1,4 +1,4 @@
-// What a node makes of a younger set, told by the sets of a table, and its order with them.
+// What a node makes of a younger set, over the sets of a table, and its order with them.
 ghost use Rattle.std.specs.Prelude.{◌≡◌, ◌<◌, ◌≤◌, ◌⊎◌, ◌↔◌, ℕ, [], length, slice_get, slice_index_or, Some, None, IsTrue, IfOk};
 ghost use Rattle.std.specs.List.{Contains};
 ghost use Rattle.std.specs.List.Sorted.{IsStrictlyIncreasing};
@@ -142,7 +142,7 @@ fn is_above_set(sets: &[SetList], place: u32, reached: u32) -> bool
     all_in(numbers, sets[place as usize].items(), None)
 }
 
-/// The set with one more number, in memory of its own. An error is want of memory.
+/// The set with one more number, in memory of its own. The error is out of memory.
 pub(crate) fn longer(set: &SetList, number: u16) -> Result<SetList, AllocError>
     requires { IsStrictlyIncreasing set.now }
     ensures value { IfOk result (λ longer. longer ≡ with_number number set.now) }

@@ -17,7 +17,7 @@ use std::alloc::{AllocError, Global};
 // One more entry than this would have no number.
 const LIMIT: usize = u32::MAX as usize;
 
-/// A path that was found, told by its last node and the entry of the path before it.
+/// A path that was found, as its last node and the entry of the path before it.
 #[derive(Clone, Copy)]
 pub(crate) struct Entry {
     pub node: u32,
@@ -56,7 +56,7 @@ impl Trail for Search {
 ///
 /// A path is left out where what it leaves lies between what two entries of its node have seen. The entries stand in
 /// the order of their paths' lengths, so that the first one at a node with a small younger set, or with a large one,
-/// should stand for a shortest path; that is not proved. An error is want of memory, also where there were more than
+/// should stand for a shortest path; that is not proved. The error is out of memory, also where there were more than
 /// 4,294,967,295 entries, which take more than 64 GiB.
 pub(crate) fn find_entries(alloc: Global, view: &SetView, block: u16) -> Result<Search, AllocError>
     ensures search { IfOk result (λ search. IsSearch view.now block search) }

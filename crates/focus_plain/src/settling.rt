@@ -41,10 +41,10 @@ pub struct PlainSettled {
 }
 
 /// The least and the most younger sets of a block, and the fates that ways bear out, at each node that fetches it,
-/// rising by node. The block is told by its local number.
+/// rising by node. The block is given by its local number.
 ///
 /// It solves for the sets (`focus_values::younger_sets` says what they cost), and searches the graph once as `judge`
-/// does. An error is want of memory.
+/// does. The error is out of memory.
 pub fn settle(alloc: Global, view: &SetView, block: u16) -> Result<PlainSettled, AllocError>
     requires { block < length view.now.blocks }
     ensures places { IfOk result (λ settled.

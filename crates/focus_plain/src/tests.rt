@@ -55,7 +55,7 @@ const FORK: [Node; 5] = [
     },
 ];
 
-// Whether this way leads to the node, and hits there as told.
+// Whether this way leads to the node, and hits there as it should.
 fn leads(
     alloc: Global,
     graph: &Graph,

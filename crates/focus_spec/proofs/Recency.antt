@@ -15,7 +15,7 @@ length-others block [] distinct = refl
 length-others block (other ∷ blocks) distinct =
     grind (arith, nat_tests, common_steps, others-absent block blocks, length-others block blocks distinct.1)
 
--- the others behind the block itself
+-- the others after the block itself
 others-at : (block other : ℕ) (blocks : List ℕ) → (other == block) ≡ true
     → others (other ∷ blocks) block ≡ others blocks block
 others-at block other blocks same = simp same

@@ -132,7 +132,7 @@ after-named blocks block other set up inside other_inside places =
           ∙ ap (option_map (map (named blocks))) (sym (after-other block other set apart))
     ]
 
--- a younger set names the same blocks, whether they are told by themselves or by their places
+-- a younger set names the same blocks, whether they are given by themselves or by their places
 pub younger-named : (blocks : List ℕ) (block : ℕ) (fetches : List (Option ℕ)) → IsStrictlyIncreasing blocks
     → block < length blocks → AreFetchedPlaces blocks fetches
     → younger (named blocks block) (map (option_map (named blocks)) fetches)

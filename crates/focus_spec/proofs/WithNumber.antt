@@ -8,7 +8,7 @@ use Rattle.set_list.specs.Rising.{Contains-front}
 use Rattle.focus_spec.specs.Younger.{with_number}
 use Rattle.set_list.specs.RisingSets.{rising-one, rising-cons, rising-tail, first_below, not_below_first, behind_first, same_from_subsets}
 
--- below the first number it stands in front
+-- below the first number it stands first
 pub with_number-below : (x y : ℕ) (ys : List ℕ) → x < y → with_number x (y ∷ ys) ≡ x ∷ y ∷ ys
 with_number-below x y ys below = grind (arith, nat_tests)
 
@@ -16,7 +16,7 @@ with_number-below x y ys below = grind (arith, nat_tests)
 pub with_number-first : (x y : ℕ) (ys : List ℕ) → x ≡ y → with_number x (y ∷ ys) ≡ y ∷ ys
 with_number-first x y ys same = grind (arith, nat_tests)
 
--- above the first number it stands among those behind
+-- above the first number it stands among those after
 pub with_number-above : (x y : ℕ) (ys : List ℕ) → y < x → with_number x (y ∷ ys) ≡ y ∷ with_number x ys
 with_number-above x y ys above = grind (arith, nat_tests)
 
@@ -31,7 +31,7 @@ has-first x z zs y same = (
   λ either. elim either [ inl there ↦ there | inr is ↦ (Contains-front z zs y).1 (inr (is ∙ same)) ],
 )
 
--- where x belongs behind the first number
+-- where x belongs after the first number
 has-behind : (x z : ℕ) (zs longer : List ℕ) (y : ℕ) → HasNumbers x zs y longer → HasNumbers x (z ∷ zs) y (z ∷ longer)
 has-behind x z zs longer y behind = (
   λ there. elim ((Contains-front z longer y).0 there) [

@@ -17,16 +17,16 @@ abbrev pub Leaves : List Node → List (Option ℕ) → ℕ → ℕ → Option (
 Leaves nodes fetches block n younger =
     (earlier : List ℕ) × IsPath (graph_step nodes) 0 (n ∷ earlier) × (younger_after fetches block earlier ≡ younger)
 
--- some path that ends in the node has a younger set of fewer than so many
+-- some path that ends in the node has a younger set of fewer than `ways` blocks
 abbrev pub MayBeSmall : List Node → List (Option ℕ) → ℕ → ℕ → ℕ → Type 0
 MayBeSmall nodes fetches ways block n = (set : List ℕ) × Leaves nodes fetches block n (Some set) × (length set < ways)
 
--- some path that ends in the node has no younger set, or one of at least so many
+-- some path that ends in the node has no younger set, or one of at least `ways` blocks
 abbrev pub MayBeLarge : List Node → List (Option ℕ) → ℕ → ℕ → ℕ → Type 0
 MayBeLarge nodes fetches ways block n =
     (younger : Option (List ℕ)) × Leaves nodes fetches block n younger × IsFalse (is_small ways younger)
 
--- a least younger set: it has fewer than so many, and no path leaves another one that is included in it
+-- a least younger set: it has fewer than `ways` blocks, and no path leaves another one that is included in it
 pub record IsLeastYounger (nodes : List Node) (fetches : List (Option ℕ)) (ways block n : ℕ) (set : List ℕ) : Type 0 where
   pub left : Leaves nodes fetches block n (Some set)
   pub small : length set < ways

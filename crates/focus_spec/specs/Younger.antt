@@ -1,5 +1,5 @@
 -- The younger set of a block: the other blocks of its set that were fetched since its own last fetch. Touzeau, Maïza,
--- Monniaux and Reineke 2019. A list of fetches stands with its last one first; each is told by the number of the block
+-- Monniaux and Reineke 2019. A list of fetches stands with its last one first; each is given as the number of the block
 -- that it fetches, and None where that is a block of another set.
 use Rattle.std.specs.Prelude.{ℕ, ◌==◌, if◌then◌else◌, Bool, false, nat_lt, List, [], ◌∷◌, length, Option, Some, None, option_map, slice_index_or}
 
@@ -18,7 +18,7 @@ abbrev pub younger : ℕ → List (Option ℕ) → Option (List ℕ)
 younger block [] = None
 younger block (fetch ∷ earlier) = after block fetch (younger block earlier)
 
--- there is a younger set, and it has fewer than so many blocks
+-- there is a younger set, and it has fewer than `ways` blocks
 abbrev pub is_small : ℕ → Option (List ℕ) → Bool
 is_small ways None = false
 is_small ways (Some set) = nat_lt (length set) ways

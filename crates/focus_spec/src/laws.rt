@@ -8,7 +8,7 @@ ghost use Rattle.focus_spec.specs.Younger.{younger, is_small, named};
 ghost use Rattle.cache_spec.specs.Blocks.{block_in};
 
 /// What holds of younger sets: a list of fetches ends in a hit exactly where the younger set of its last block has fewer
-/// blocks than a set has ways; a younger set rises; it names the same blocks, whether they are told by themselves or by
+/// blocks than a set has ways; a younger set rises; it names the same blocks, whether they are given by themselves or by
 /// their places in a list that rises; it has the blocks that were fetched since its own block's last fetch; and there is
 /// none exactly where its block was never fetched.
 pub fn younger_laws()

@@ -43,7 +43,7 @@ fit-one g s is = record {
 pub empty_set : (g : Setting) → 0 < g.ways → is_set g [] ≡ true
 empty_set g some = lt-ltb 0 g.ways some
 
--- behind a fetch of another block
+-- after a fetch of another block
 after_sets : (g : Setting) (other : ℕ) (most more : Option (List (List ℕ))) → other < g.count
     → AreSets g (sets_in most) → IsMostAfter other g.ways most more → AreSets g (sets_in more)
 after_sets g other most None below sets is = none_sets g
@@ -52,14 +52,14 @@ after_sets g other (Some many) (Some new) below sets is = λ s there.
     let source = is.comes s there in
     with-set g other source.0 s (sets source.0 source.1) below source.2 (is.small source.0 s source.1 source.2)
 
--- the most sets behind a fetch include no other
+-- the most sets after a fetch include no other
 after_highest : (g : Setting) (other : ℕ) (most more : Option (List (List ℕ))) → IsMostAfter other g.ways most more
     → AreHighest (sets_in more)
 after_highest g other most None is = none_highest
 after_highest g other None (Some new) is = absurd is
 after_highest g other (Some many) (Some new) is = is.highest
 
--- so the families behind a fetch are fit
+-- so the families after a fetch are fit
 pub fit-after : (g : Setting) (other : ℕ) (least less : List (List ℕ)) (most more : Option (List (List ℕ)))
     → other < g.count → AreFit g least most
     → IsLeastAfter other g.ways least less → IsMostAfter other g.ways most more → AreFit g less more

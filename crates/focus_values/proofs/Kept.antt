@@ -1,4 +1,4 @@
--- The families at the start, behind a fetch of the block itself or of another set, where paths meet, and copied: they
+-- The families at the start, after a fetch of the block itself or of another set, where paths meet, and copied: they
 -- stand for the marks that the framework asks for.
 use Rattle.std.proofs.Common.{◌≡◌, ℕ, ◌⊎◌, Bool, true, false, ◌&&◌, ◌||◌, cond, List, [], ◌∷◌, Option, Some, None, inl, inr, refl, sym, ap, ◌∙◌}
 use mathlib.Core.Path.{fun_ext}
@@ -20,7 +20,7 @@ begins_says lost = refl
 pub marks-begin : (g : Setting) → marks_of g [] None ≡ (λ (mark : Mark). is_mark g mark && begins mark)
 marks-begin g = fun_ext (λ (mark : Mark). ap (λ (b : Bool). is_mark g mark && b) (begins_says mark))
 
--- behind a fetch of the block itself
+-- after a fetch of the block itself
 fresh_says : (mark : Mark) → says ([] ∷ []) (Some ([] ∷ [])) mark ≡ (is_fresh mark || false)
 fresh_says (over s) = refl
 fresh_says (under []) = refl
@@ -35,7 +35,7 @@ marks-fresh g other x same = fun_ext (λ (mark : Mark).
     ∙ ap (λ (b : Bool). is_mark g mark && ((b && is_fresh mark) || list_any x
     (cond b [] (other_sources g other mark)))) (sym (eq-eqb other g.block same)))
 
--- behind a fetch of another set
+-- after a fetch of another set
 pub marks-still : (g : Setting) (x : Mark → Bool) → ((mark : Mark) → x mark ≡ true → is_mark g mark ≡ true)
     → x ≡ moved_by g None x
 marks-still g x within = fun_ext (λ (mark : Mark). same_tests (x mark) (moved_by g None x mark)

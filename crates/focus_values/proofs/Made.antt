@@ -42,7 +42,7 @@ over_of sets most rising is s there =
     let highest = has_highest sets s rising there in
     (highest.0, (is highest.0).1 (highest.1, highest.2), highest.3)
 
--- the least younger sets behind a fetch
+-- the least younger sets after a fetch
 pub made_least_after : (other ways : ℕ) (sets more small new : List (List ℕ)) → HasEachWith other sets more
     → ((s : List ℕ) → Contains small s ↔ (Contains more s × (length s < ways))) → AreRising small → HasLeastOf small new
     → IsLeastAfter other ways sets new
@@ -53,7 +53,7 @@ made_least_after other ways sets more small new with few rising is = record {
   lowest = lowest_of small new is;
 }
 
--- the most younger sets behind a fetch
+-- the most younger sets after a fetch
 pub made_most_after : (other ways : ℕ) (sets more new : List (List ℕ)) → HasEachWith other sets more
     → ((s : List ℕ) → Contains more s → length s < ways) → AreRising more → HasMostOf more new
     → AreMostAfter other ways sets new

@@ -1,4 +1,4 @@
--- The families behind a fetch of another block stand for the marks that move there.
+-- The families after a fetch of another block stand for the marks that move there.
 use Rattle.std.proofs.Common.{◌≡◌, ℕ, ◌+◌, ◌≤◌, Bool, true, ◌&&◌, ◌||◌, not, cond, List, [], ◌∷◌, map, length, ltb, Option, Some, None, Contains, inl, inr, refl, sym, subst, ap, ◌∙◌, arith}
 use mathlib.Core.Path.{fun_ext}
 use Rattle.std.proofs.lemmas.Bool.{and_parts, and_from, cases_Bool, cases_eq, both_ways, cond-true, cond-false, ltb-true, lt-ltb, not-true, not_from_false, false_from_ne_true, or_cases, or_right, ne_eqb}
@@ -265,7 +265,7 @@ moved_other g other x mark apart =
     ap (λ (b : Bool). is_mark g mark && ((b && is_fresh mark) || list_any x (cond b [] (other_sources g other mark))))
     (ne_eqb other g.block apart)
 
--- the families behind a fetch of another block
+-- the families after a fetch of another block
 pub marks-after : (g : Setting) (other : ℕ) (least less : List (List ℕ)) (most more : Option (List (List ℕ)))
     → (other ≡ g.block → ⊥) → AreFit g least most
     → IsLeastAfter other g.ways least less → IsMostAfter other g.ways most more

@@ -21,7 +21,7 @@ module _ (g : Setting) (n : ℕ) (fetch : Option ℕ) (is : fetch ≡ fetch_at g
   at_node : (x : Mark → Bool) → moved_by g fetch x ≡ moved (marking g) n x
   at_node x = ap (λ (f : Option ℕ). moved_by g f x) is
 
-  -- behind a fetch of another set
+  -- after a fetch of another set
   pub copy_value : (younger copy : YoungerSets) → fetch ≡ None → IsCopy younger copy
       → marks_in g copy ≡ moved (marking g) n (marks_in g younger)
   copy_value younger copy none same =
@@ -29,7 +29,7 @@ module _ (g : Setting) (n : ℕ) (fetch : Option ℕ) (is : fetch ≡ fetch_at g
       ∙ (marks-still g (marks_in g younger) (marks_within g younger.least younger.most)
       ∙ (ap (λ (f : Option ℕ). moved_by g f (marks_in g younger)) (sym none) ∙ at_node (marks_in g younger)))
 
-  -- behind a fetch of the block itself
+  -- after a fetch of the block itself
   pub fresh_value : (younger next : YoungerSets) (other : ℕ) → fetch ≡ Some other → other ≡ g.block → AreFresh next
       → marks_in g next ≡ moved (marking g) n (marks_in g younger)
   fresh_value younger next other some own empty =
@@ -38,7 +38,7 @@ module _ (g : Setting) (n : ℕ) (fetch : Option ℕ) (is : fetch ≡ fetch_at g
       ∙ (marks-fresh g other (marks_in g younger) own
       ∙ (ap (λ (f : Option ℕ). moved_by g f (marks_in g younger)) (sym some) ∙ at_node (marks_in g younger))))
 
-  -- behind a fetch of another block
+  -- after a fetch of another block
   pub after_value : (younger next : YoungerSets) (other ways : ℕ) → fetch ≡ Some other → (other ≡ g.block → ⊥)
       → ways ≡ g.ways → IsFit g younger → IsAfter other ways younger next
       → marks_in g next ≡ moved (marking g) n (marks_in g younger)

@@ -35,13 +35,13 @@ most_one ways (Some set) = cond (ltb (length set) ways) (Some (set ∷ [])) None
 abbrev pub marks_one : Setting → Option (List ℕ) → Mark → Bool
 marks_one g y = marks_of g (least_one g.ways y) (most_one g.ways y)
 
--- a small younger set is told by itself
+-- a small younger set stands for itself
 pub marks-small : (g : Setting) (set : List ℕ) → length set < g.ways → marks_one g (Some set) ≡ marks_of g (set ∷ [])
     (Some (set ∷ []))
 marks-small g set few = ap (λ (b : Bool). marks_of g (cond b (set ∷ []) []) (cond b (Some (set ∷ [])) None))
     (lt-ltb (length set) g.ways few)
 
--- a large one is told like one that is not there
+-- a large one counts as one that is not there
 pub marks-large : (g : Setting) (set : List ℕ) → g.ways ≤ length set → marks_one g (Some set) ≡ marks_of g [] None
 marks-large g set many = ap (λ (b : Bool). marks_of g (cond b (set ∷ []) []) (cond b (Some (set ∷ [])) None))
     (le-ltb (length set) g.ways many)
@@ -191,7 +191,7 @@ one-none : (g : Setting) (other : ℕ) → (other ≡ g.block → ⊥) → moved
     g [] None
 one-none g other apart = sym (marks-after g other [] [] None None apart (fit-begin g) (least-none other g.ways) tt)
 
--- behind a fetch of another block, where it was small
+-- after a fetch of another block, where it was small
 one-small : (g : Setting) (other : ℕ) (set : List ℕ) → (other ≡ g.block → ⊥) → other < g.count → IsLocal g set
     → length set < g.ways
     → moved_by g (Some other) (marks_of g (set ∷ []) (Some (set ∷ []))) ≡ marks_one g (Some (with_number other set))
@@ -209,7 +209,7 @@ one-small g other set apart below is few =
           ∙ sym (marks-large g new more)
     ]
 
--- behind a fetch of another block, whatever it was
+-- after a fetch of another block, whatever it was
 one-grown : (g : Setting) (other : ℕ) (y : Option (List ℕ)) → (other ≡ g.block → ⊥) → other < g.count → AreLocal g y
     → moved_by g (Some other) (marks_one g y) ≡ marks_one g (grown other y)
 one-grown g other None apart below is = one-none g other apart

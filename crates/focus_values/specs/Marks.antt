@@ -44,7 +44,7 @@ begins (over set) = false
 begins (under set) = true
 begins lost = true
 
--- behind a fetch of the block its younger set is empty
+-- after a fetch of the block its younger set is empty
 abbrev pub is_fresh : Mark → Bool
 is_fresh (over set) = true
 is_fresh (under []) = true
@@ -55,22 +55,22 @@ is_fresh lost = false
 abbrev pub fills : Setting → ℕ → List ℕ → Bool
 fills g other set = nat_lt g.ways (length set + 2) && not (has set other)
 
--- where "large or absent" comes from behind a fetch of another block
+-- where "large or absent" comes from after a fetch of another block
 abbrev pub lost_sources : Setting → ℕ → List Mark
 lost_sources g other = lost ∷ map under (filter (fills g other) (all_sets g))
 
--- where a mark comes from behind a fetch of another block
+-- where a mark comes from after a fetch of another block
 abbrev pub other_sources : Setting → ℕ → Mark → List Mark
 other_sources g other (over set) = if has set other then over set ∷ [] else []
 other_sources g other (under set) = under (without other set) ∷ lost_sources g other
 other_sources g other lost = lost_sources g other
 
--- where a mark comes from behind a fetch
+-- where a mark comes from after a fetch
 abbrev pub sources_of : Setting → Option ℕ → Mark → List Mark
 sources_of g None mark = mark ∷ []
 sources_of g (Some other) mark = if other == g.block then [] else other_sources g other mark
 
--- which marks stand always behind a fetch
+-- which marks stand always after a fetch
 abbrev pub always_of : Setting → Option ℕ → Mark → Bool
 always_of g None mark = false
 always_of g (Some other) mark = other == g.block && is_fresh mark

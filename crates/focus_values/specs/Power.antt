@@ -4,7 +4,7 @@ use Rattle.std.specs.Prelude.{◌≡◌, ℕ, ◌+◌, Bool, true, ◌&&◌, ◌
 use Rattle.std.specs.List.{Contains, list_any}
 use Rattle.lattice_fix.specs.Framework.{Framework}
 
--- which marks there are, in a list and by a test; which of them stand at the start; and behind a node which of them
+-- which marks there are, in a list and by a test; which of them stand at the start; and after a node which of them
 -- stand always, and from which others, of which one has to stand before it, each comes
 pub record Marking (M : Type 0) : Type 0 where
   pub all : List M
@@ -13,11 +13,11 @@ pub record Marking (M : Type 0) : Type 0 where
   pub always : ℕ → M → Bool
   pub sources : ℕ → M → List M
 
--- the marks behind a node
+-- the marks after a node
 abbrev pub moved : {M : Type 0} → Marking M → ℕ → (M → Bool) → M → Bool
 moved K n x mark = K.is_mark mark && (K.always n mark || list_any x (K.sources n mark))
 
--- sets of marks, told by their tests
+-- sets of marks, by their tests
 abbrev pub power : {M : Type 0} → Marking M → Framework (M → Bool)
 power {M} K = record {
   carrier = λ x. (mark : M) → x mark ≡ true → K.is_mark mark ≡ true;

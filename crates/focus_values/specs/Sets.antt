@@ -20,7 +20,7 @@ abbrev pub without : ℕ → List ℕ → List ℕ
 without x [] = []
 without x (y ∷ ys) = if y == x then without x ys else (y ∷ without x ys)
 
--- all sets of the next so many numbers from a least one on
+-- all sets of the next `count` numbers from a least one on
 abbrev pub sets_from : ℕ → ℕ → List (List ℕ)
 sets_from zero low = [] ∷ []
 sets_from (suc n) low = sets_from n (low + 1) ++ map (λ s. low ∷ s) (sets_from n (low + 1))

@@ -43,7 +43,7 @@ fn most_of(sets: &PlainFamily) -> Result<PlainFamily, AllocError>
     sets.maximal()
 }
 
-// The least younger sets behind a fetch of another block: with it, as far as they stay small.
+// The least younger sets after a fetch of another block: with it, as far as they stay small.
 pub(crate) fn least_after(
     least: &PlainFamily,
     other: u16,
@@ -54,7 +54,7 @@ pub(crate) fn least_after(
     least_of(&least.insert_each(other)?.below(ways)?)
 }
 
-// The most younger sets behind a fetch of another block: with it, and absent as soon as one gets large.
+// The most younger sets after a fetch of another block: with it, and absent as soon as one gets large.
 pub(crate) fn most_after(
     most: &Option<PlainFamily>,
     other: u16,

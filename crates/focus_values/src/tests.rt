@@ -1,4 +1,4 @@
-// Younger sets on a graph whose families can be told by hand: arms of one fetch and of two, which meet, and a way back.
+// Younger sets on a graph whose families are found by hand: arms of one fetch and of two, which meet, and a way back.
 use crate::younger_sets;
 use cache_geom::Geometry;
 use path_model::{Graph, Node};

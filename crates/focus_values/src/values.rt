@@ -19,7 +19,7 @@ pub struct YoungerSets {
 }
 
 /// The least and the most younger sets of the block with this local number, before each node in order, exactly. An
-/// error is want of memory.
+/// error is out of memory.
 ///
 /// The families can have as many sets as there are sets of other blocks that are small enough: this is meant for what
 /// cheaper analyses leave open. Each node is worked off once where all edges lead to greater numbers.

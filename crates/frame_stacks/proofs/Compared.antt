@@ -20,7 +20,7 @@ ordering_then_assoc Less two three = refl
 ordering_then_assoc Equal two three = refl
 ordering_then_assoc Greater two three = refl
 
--- behind equally long beginnings the rests decide what the beginnings don't
+-- after equally long beginnings the rests decide what the beginnings don't
 slice_cmp-append : (xs ys us vs : List ℕ) → length xs ≡ length ys
     → slice_cmp nat_cmp (xs ++ us) (ys ++ vs) ≡ ordering_then (slice_cmp nat_cmp xs ys) (slice_cmp nat_cmp us vs)
 slice_cmp-append [] [] us vs same = refl
@@ -35,7 +35,7 @@ length-numbers : (frames : List Frame) → length (flat_map frame_numbers frames
 length-numbers [] = refl
 length-numbers (frame ∷ frames) = omega (arith, length-numbers frames)
 
--- behind equally many frames, the rests decide what those don't
+-- after equally many frames, the rests decide what those don't
 pub frames_cmp-append : (xs ys us vs : List Frame) → length xs ≡ length ys
     → frames_cmp (xs ++ us) (ys ++ vs) ≡ ordering_then (frames_cmp xs ys) (frames_cmp us vs)
 frames_cmp-append xs ys us vs same =

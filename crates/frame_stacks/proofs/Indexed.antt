@@ -110,7 +110,7 @@ alone_kept cells numbers cell kept none below s t (inr last) (inl high) same =
 alone_kept cells numbers cell kept none below s t (inl low) (inr end) same =
     absurd (is_new cells numbers cell s kept none below low (sym (ap (frames_of (cells ++ cell ∷ [])) end ∙ frames_of-push_last cells cell below) ∙ sym same ∙ frames_of-push cells cell s low))
 
--- cells stay lawful when a new one is put behind them
+-- cells stay lawful when a new one is put after them
 cells_kept : (cells : List StackCell) (numbers : Numbers) (cell : StackCell) → AreNumbered cells numbers
     → number_of numbers cell ≡ None → cell.below ≤ length cells → AreCells (cells ++ cell ∷ [])
 cells_kept cells numbers cell kept none below = record {

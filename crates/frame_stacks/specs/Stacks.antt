@@ -12,7 +12,7 @@ use Rattle.frame_stacks.specs.declared.stacks.StackCell.{StackCell}
 abbrev pub made_by : List (List Frame) → StackCell → List Frame
 made_by stacks cell = slice_index_or stacks cell.below [] ++ cell.frame ∷ []
 
--- the stacks so far, and behind them those that the cells make
+-- the stacks so far, and after them those that the cells make
 abbrev pub stacks_after : List (List Frame) → List StackCell → List (List Frame)
 stacks_after stacks [] = stacks
 stacks_after stacks (cell ∷ cells) = stacks_after (stacks ++ made_by stacks cell ∷ []) cells

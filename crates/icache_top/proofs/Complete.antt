@@ -17,7 +17,7 @@ too_many None now taken = tt
 too_many (Some file) None taken = absurd taken.2
 too_many (Some file) (Some rest) taken = omega (arith, ap (λ xs. length xs) taken.2, length-append taken.0 rest, taken.1)
 
--- the file that was read is the bytes that were told
+-- the file that was read is the bytes that were known
 whole : (words : List (List ℕ)) (status : Status) (left now old new : Option (List ℕ)) → Read words status left now old new
     → IfSome left (λ file. Judges words file status old new)
 whole words status left now old new read =

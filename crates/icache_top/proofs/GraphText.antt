@@ -58,7 +58,7 @@ text-take_more lines i line is =
     ∙ ap (λ last. text_of (take i lines ++ last ∷ [])) (sym same)
     ∙ ap text_of (sym (take_more lines i line within))
 
--- a front of the first lines' text is a front of the whole text
+-- a prefix of the first lines' text is a prefix of the whole text
 pub SendsPrefix-take : (a b : Option (List ℕ)) (lines : List GraphLine) (n : ℕ) → SendsPrefix a b (text_of (take n lines)) → SendsPrefix a b (text_of lines)
 SendsPrefix-take a b lines n part =
     let joined : text_of (take n lines) ++ text_of (drop n lines) ≡ text_of lines =

@@ -1,4 +1,4 @@
--- What is decided of some words and a file is one answer.
+-- What is decided of some arguments and a file is one answer.
 use Rattle.std.proofs.Common.{◌≡◌, ℕ, ◌<◌, ◌≤◌, List, length, map, refl, ap, subst, arith, inl, inr, Some}
 use Rattle.std.specs.Prelude.{◌⊎◌, ◌≢◌, Option, Ok, Err}
 use Rattle.elf_spec.specs.Image.{Image, image_of}
@@ -72,7 +72,7 @@ Cause settings file status =
     ⊎ (((fault : FlowFault) × HasFlowFault settings file fault × (status ≡ Flow fault))
     ⊎ ((set : ℕ) × (count : ℕ) × HasManyBlocks settings file set count × (status ≡ TooManyBlocks set count))))
 
--- the words give the settings, and there is such a cause
+-- the arguments give the settings, and there is such a cause
 abbrev IsCaused : List (List ℕ) → List ℕ → Status → Type 0
 IsCaused words file status = (settings : Settings) × (settings_of words ≡ Some settings) × (length file ≤ file_limit) × Cause settings file status
 
@@ -160,7 +160,7 @@ module _ (settings : Settings) (file : List ℕ) where
   one_cause status other (inr (inr (inr (set, count, many, is)))) (inr (inr (inr (set', count', many', is')))) =
       let (same, as_many) = many_many set count set' count' many many' in cc (same, as_many, is, is')
 
--- all that is decided of the same words and file is one status, but for want of memory
+-- all that is decided of the same arguments and file is one status, unless memory runs out
 pub one_status : (words : List (List ℕ)) (file : List ℕ) (status other : Status) (old new before now : Option (List ℕ))
     → Decides words file status old new → Decides words file other before now → status ≢ OutOfMemory → other ≢ OutOfMemory → status ≡ other
 one_status words file status other old new before now decided decided' memory memory' =

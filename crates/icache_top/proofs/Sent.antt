@@ -63,7 +63,7 @@ module _ (contexts : Bool) (image : Image) (expanded : Expansion) (verdicts : Li
       let (entry, g, findings) = found in
       rest image entry g expanded.configurations expanded.nodes verdicts findings contexts place
 
-  -- a front of what stands before a place was sent
+  -- a prefix of what stands before a place was sent
   part_before : (a c : Option (List ℕ)) (front : List Line) (place : Option ℕ) → AreAllBefore At place front → SendsPrefix a c (text_of front)
       → SendsAll contexts image expanded verdicts (SendsPrefix a c)
   part_before a c front place before part =
@@ -73,7 +73,7 @@ module _ (contexts : Bool) (image : Image) (expanded : Expansion) (verdicts : Li
         subst (SendsPrefix a c) (sym (text_of-append front lines)) (SendsPrefix-more a c (text_of front) (text_of lines) part),
       )
 
-  -- a front of the lines so far was sent
+  -- a prefix of the lines so far was sent
   pub part_sent : (a b c : Option (List ℕ)) (buffer : List ℕ) (from : ℕ)
       → (front : List Line) × AreAllBefore At (Some from) front × Pending a b buffer (text_of front)
       → SendsPart At from (SendsPrefix b c) buffer → SendsAll contexts image expanded verdicts (SendsPrefix a c)

@@ -1,4 +1,4 @@
--- What a run answers: for each status, what it says of the words, of the bytes that the source had, and of the bytes
+-- What a run answers: for each status, what it says of the arguments, of the bytes that the source had, and of the bytes
 -- that the sink got. This project's own statuses; their order is that in which the causes are met.
 use Rattle.std.specs.Prelude.{◌≡◌, ◌⊎◌, ℕ, ◌+◌, List, Option, Some, Result, Ok, Err, ◌<◌, ◌≤◌, length, map, unwrap_or}
 use Rattle.std.specs.Io.KnownBytes.{Appends, Keeps, Consumes, IsAtEnd}
@@ -109,7 +109,7 @@ Tells settings file (Elf fault) old new = HasElfFault file fault × Keeps old ne
 Tells settings file status old new =
     ToldOf (HasFlowFault settings file) (HasManyBlocks settings file) (IsAnswerOf settings file) status old new
 
--- the words give settings, the whole file was read, and the status says this of it
+-- the arguments give settings, the whole file was read, and the status says this of it
 abbrev pub Read : List (List ℕ) → Status → Option (List ℕ) → Option (List ℕ) → Option (List ℕ) → Option (List ℕ) → Type 0
 Read words status left now old new =
     (settings : Settings) × (settings_of words ≡ Some settings)
@@ -128,12 +128,12 @@ Answers words (Elf fault) left now old new = Read words (Elf fault) left now old
 Answers words (Flow fault) left now old new = Read words (Flow fault) left now old new
 Answers words (TooManyBlocks set count) left now old new = Read words (TooManyBlocks set count) left now old new
 
--- the words give settings, the file is within the limit, and the status says this of it
+-- the arguments give settings, the file is within the limit, and the status says this of it
 abbrev pub Judges : List (List ℕ) → List ℕ → Status → Option (List ℕ) → Option (List ℕ) → Type 0
 Judges words file status old new =
     (settings : Settings) × (settings_of words ≡ Some settings) × (length file ≤ file_limit) × Tells settings file status old new
 
--- what a status says of a source that told its bytes at the start
+-- what a status says of a source whose bytes are known at the start
 abbrev pub SaysOf : List (List ℕ) → List ℕ → Status → Option (List ℕ) → Option (List ℕ) → Type 0
 SaysOf words file Done old new = Judges words file Done old new
 SaysOf words file WriteFault old new = Judges words file WriteFault old new
@@ -145,8 +145,8 @@ SaysOf words file OutOfMemory old new = Unit {0}
 SaysOf words file ReadFault old new = Unit {0}
 SaysOf words file (TooManyBlocks set count) old new = Judges words file (TooManyBlocks set count) old new
 
--- the answer to words that give settings, where the file is told and no port fails: a report, the one refusal of the
--- file, or want of memory
+-- the answer to arguments that give settings, where the file is known and no port fails: a report, the one refusal of the
+-- file, or out of memory
 abbrev pub Decides : List (List ℕ) → List ℕ → Status → Option (List ℕ) → Option (List ℕ) → Type 0
 Decides words file Usage old new = ⊥
 Decides words file ReadFault old new = ⊥
@@ -178,7 +178,7 @@ abbrev pub CountsOut : Status → ℕ → ℕ → Type 0
 CountsOut WriteFault before now = Rose before now
 CountsOut status before now = now ≡ before
 
--- the sink's count of refusals may have risen at want of memory, and is as it was else
+-- the sink's count of refusals may have risen where memory ran out, and is as it was else
 abbrev pub CountsOutRefusals : Status → ℕ → ℕ → Type 0
 CountsOutRefusals OutOfMemory before now = before ≤ now
 CountsOutRefusals status before now = now ≡ before

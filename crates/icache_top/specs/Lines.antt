@@ -23,13 +23,13 @@ abbrev pub SendsAll : Bool → Image → Expansion → List Verdict → (List �
 SendsAll contexts image expanded verdicts Sent =
     (lines : List Line) × AreAllFrom (StandsAt contexts image expanded verdicts) (Some 0) lines × Sent (text_of lines)
 
--- the line at a place and the place behind it, and what was sent is the buffer and its text; or no line is left
+-- the line at a place and the place after it, and what was sent is the buffer and its text; or no line is left
 abbrev pub SendsNext : (ℕ → Option (Line × Option ℕ) → Type 0) → ℕ → (List ℕ → Type 0) → List ℕ → Option ℕ → Type 0
 SendsNext At from Sent buffer next =
     (At from None × (next ≡ None) × Sent buffer)
     ⊎ ((line : Line) × At from (Some (line, next)) × Sent (buffer ++ line_text line))
 
--- a front of the buffer and the text of a line at the place was sent, or nothing
+-- a prefix of the buffer and the text of a line at the place was sent, or nothing
 abbrev pub SendsPart : (ℕ → Option (Line × Option ℕ) → Type 0) → ℕ → (List ℕ → Type 0) → List ℕ → Type 0
 SendsPart At from Sent buffer =
     Sent buffer ⊎ ((line : Line) × (next : Option ℕ) × At from (Some (line, next)) × Sent (buffer ++ line_text line))

@@ -1,4 +1,4 @@
-// What is the same of every run on the same words and file.
+// What is the same of every run on the same arguments and file.
 ghost use Rattle.std.specs.Prelude.{◌≡◌, ◌≢◌, ℕ, List, Option};
 ghost use Rattle.command_spec.specs.declared.settings.Settings.{Settings};
 ghost use Rattle.top_words.specs.declared.status.Status.{Status};

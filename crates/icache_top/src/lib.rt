@@ -1,8 +1,8 @@
 //! All that the program does, as one call over ports that are handed in.
 //!
-//! Stands on the crates below: `top_words` reads the words, `byte_port` the file, `elf_image` the executable;
+//! Stands on the crates below: `top_words` reads the arguments, `byte_port` the file, `elf_image` the executable;
 //! `call_expand` expands its calls, `node_verdicts` finds the verdicts, `report_plan` the lines, and `line_sender` sends
-//! them. `run` joins them, and its contract is about what it is handed: words, a source, and two sinks. `answer_laws`
+//! them. `run` joins them, and its contract is about what it is handed: arguments, a source, and two sinks. `answer_laws`
 //! says that the contract leaves one answer.
 #![tactic(auto)]
 

@@ -49,7 +49,7 @@ pub(crate) fn send_report<O: Sink>(
     finish(out, &mut buffer)
 }
 
-/// Sends the line at a place, and gives the place behind it.
+/// Sends the line at a place, and gives the place after it.
 fn send_from<O: Sink>(
     alloc: Global,
     out: &mut O,

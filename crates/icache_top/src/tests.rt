@@ -42,7 +42,7 @@ pub(crate) fn wrap(alloc: Global, words: &[u32]) -> Result<Vec<u8>, AllocError> 
     Ok(file)
 }
 
-/// So many `nop`s, and the given word behind them.
+/// `count` `nop`s, and then the given word.
 pub(crate) fn nops(alloc: Global, count: usize, last: u32) -> Result<Vec<u32>, AllocError> {
     let mut words = vec![in alloc; 0x13; count]?;
     words.push(last)?;

@@ -24,8 +24,8 @@ use verdict_report::Verdict;
 /// The most bytes that a file may have.
 const FILE_LIMIT: usize = 16777216;
 
-/// All that the program does: reads the words, reads the source to its end, and sends the answer to `out`. At every
-/// status but `Done` the fault's text goes to `err`. The words lack the program's name.
+/// All that the program does: reads the arguments, reads the source to its end, and sends the answer to `out`. At every
+/// status but `Done` the fault's text goes to `err`. The arguments lack the program's name.
 #[tactic(auto, using(crate::proofs::Complete::says, crate::proofs::Complete::decides))]
 pub fn run<R: Threads + Sync, S: Source, O: Sink, E: Sink, G: Gate + Sync>(
     rt: &R,
@@ -36,7 +36,7 @@ pub fn run<R: Threads + Sync, S: Source, O: Sink, E: Sink, G: Gate + Sync>(
     err: &mut E,
     gate: &G,
 ) -> Outcome
-    // Which words are refused, and that nothing else is answered to them.
+    // Which arguments are refused, and that nothing else is answered to them.
     ensures usage { (result.status ≡ Status.Usage) ↔ IsNone (settings_of (bytes_of words.now)) }
 
     // What each status says of the file, and of what was sent.

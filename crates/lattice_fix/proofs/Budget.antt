@@ -10,7 +10,7 @@ use Rattle.lattice_fix.specs.Waits.{Waits}
 abbrev pub count_of : List Bool → ℕ
 count_of waiting = count_by (λ b. b) waiting
 
--- so many changes may still come, each worth one more than the nodes, and so many nodes wait
+-- `changes` may still come, each worth one more than the nodes, and `waiting` nodes wait
 abbrev pub budget : ℕ → ℕ → ℕ → List Bool → ℕ
 budget nodes height changes waiting = (nodes * height - changes) * (nodes + 1) + count_of waiting
 

@@ -17,7 +17,7 @@ abbrev pub last_of : {D : Type 0} → List D → Option D
 last_of [] = None
 last_of (x ∷ earlier) = Some x
 
--- a chain for each node, with what the node has as its last member; together they have so many members
+-- a chain for each node, with what the node has as its last member; together they have `count` members
 record HasChains {D : Type 0} (F : Framework D) (held : List (Option D)) (count : ℕ) : Type 0 where
   chains : List (List D)
   lasts : held ≡ map last_of chains

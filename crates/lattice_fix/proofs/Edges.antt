@@ -35,7 +35,7 @@ have_slots {nodes = nodes} course n m edge = let ends = edge_inside nodes course
   flag = omega (arith, ends.1, course.one_flag_each);
 }
 
--- a second successor comes only behind a first
+-- a second successor comes only after a first
 second_none : (count : ℕ) (first second : Option ℕ) → IsTrue (are_fit count first second) → first ≡ None → second ≡ None
 second_none count None None fit none = refl
 second_none count None (Some second) fit none = absurd (cc)

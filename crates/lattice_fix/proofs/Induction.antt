@@ -13,7 +13,7 @@ use Rattle.lattice_fix.proofs.Joined.{AllWithin, raised_at, raised_same, raised_
 use Rattle.lattice_fix.proofs.Steps.{brought_within, step_within, nothing_at}
 use Rattle.lattice_fix.proofs.Filled.{value_at-filled}
 
--- a replay of changes behind one another goes through what the first lead to
+-- a replay of changes after one another goes through what the first lead to
 pub Replays-split : {D : Type 0} (F : Framework D) (nodes : List Node) (before : List (Option D)) (first second : List Change) (after : List (Option D)) →
     Replays F nodes before (first ++ second) after → (between : List (Option D)) × Replays F nodes before first between × Replays F nodes between second after
 Replays-split F nodes before [] second after replay = (before, refl, replay)
@@ -21,7 +21,7 @@ Replays-split F nodes before (change ∷ first) second after replay =
     let rest = Replays-split F nodes replay.0 first second after replay.2 in
     (rest.0, (replay.0, replay.1, rest.1), rest.2)
 
--- a change of a replay is made between what those before it lead to and what those behind it begin with
+-- a change of a replay is made between what those before it lead to and what those after it begin with
 pub Replays-at : {D : Type 0} (F : Framework D) (nodes : List Node) (before : List (Option D)) (changes : List Change) (after : List (Option D)) (i : ℕ) (change : Change) →
     Replays F nodes before changes after → slice_get changes i ≡ Some change
     → (held : List (Option D)) × (then : List (Option D)) × Replays F nodes before (take i changes) held × IsStep F nodes held change then × Replays F nodes then (drop (suc i) changes) after

@@ -19,7 +19,7 @@ somes (Some value ∷ values) = value ∷ somes values
 abbrev pub solved_of : {V : Type 0} → List (Option V) → List Change → Solved V
 solved_of slots changes = record { values = somes slots; changes = changes }
 
--- a fault is want of memory, or a stop that is licensed
+-- a fault is out of memory, or a stop that is licensed
 abbrev pub IsCause : {S : Type 0} → (S → Type 0) → SolveFault S → Type 0
 IsCause licensed (Stopped stop) = licensed stop
 IsCause licensed OutOfMemory = Unit {0}

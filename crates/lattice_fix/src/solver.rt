@@ -102,7 +102,7 @@ fn first_work<V: Drop>(alloc: Global, count: usize, start: V) -> Result<Work<V>,
     })
 }
 
-// No value for each of so many nodes.
+// No value for each of `count` nodes.
 fn empty_slots<V: Drop>(alloc: Global, count: usize) -> Result<Vec<Option<V>>, AllocError>
     ensures { IfOk result (λ slots. slots.items ≡ replicate count None) }
 {

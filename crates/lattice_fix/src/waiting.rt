@@ -29,7 +29,7 @@ impl Model for Waiting {
 }
 
 impl Waiting {
-    /// None of so many nodes waits.
+    /// None of `count` nodes waits.
     pub(crate) fn none(alloc: Global, count: usize) -> Result<Self, AllocError>
         ensures { IfOk result (λ waiting. waiting ≡ replicate count false) }
     {

@@ -16,7 +16,7 @@ use Rattle.line_sender.specs.Pending.{Pending, WritesBy}
 pub Pending-start : (a : Option (List ℕ)) (buffer : List ℕ) → Pending a a buffer buffer
 Pending-start a buffer = ([], Appends-nil a, refl)
 
--- more text came behind the buffer
+-- more text came after the buffer
 pub Pending-more : (a b : Option (List ℕ)) (buffer text more : List ℕ)
     → Pending a b buffer text → Pending a b (buffer ++ more) (text ++ more)
 Pending-more a b buffer text more before =
@@ -31,7 +31,7 @@ Pending-trans a b c buffer left text before next = (
   append_assoc before.0 next.0 left ∙ ap (λ rest. before.0 ++ rest) next.2 ∙ before.2,
 )
 
--- a line came behind the buffer, and then some of both went over
+-- a line came after the buffer, and then some of both went over
 pub Pending-line : (a b c : Option (List ℕ)) (buffer left text line : List ℕ)
     → Pending a b buffer text → Pending b c left (buffer ++ line) → Pending a c left (text ++ line)
 Pending-line a b c buffer left text line before next =
@@ -43,22 +43,22 @@ pub Appends-pending : (a b c : Option (List ℕ)) (buffer text : List ℕ)
 Appends-pending a b c buffer text before rest =
     subst (Appends a c) before.2 (Appends-trans a b c before.0 buffer before.1 rest)
 
--- no byte of a text is a front of it
+-- no byte of a text is a prefix of it
 pub SendsPrefix-none : (a : Option (List ℕ)) (text : List ℕ) → SendsPrefix a a text
 SendsPrefix-none a text = (0, grind (arith, common_steps), Appends-nil a)
 
--- the whole text is a front of it
+-- the whole text is a prefix of it
 pub SendsPrefix-whole : (a b : Option (List ℕ)) (text : List ℕ) → Appends a b text → SendsPrefix a b text
 SendsPrefix-whole a b text whole = (length text, omega arith, rw (take-length text) whole)
 
--- a front of a text is a front of a longer one
+-- a prefix of a text is a prefix of a longer one
 pub SendsPrefix-more : (a b : Option (List ℕ)) (text more : List ℕ)
     → SendsPrefix a b text → SendsPrefix a b (text ++ more)
 SendsPrefix-more a b text more part =
     let same : take part.0 (text ++ more) ≡ take part.0 text = grind (arith, common_steps, part.1) in
     (part.0, grind (arith, common_steps, part.1), subst (Appends a b) (sym same) part.2)
 
--- a text, and then a front of what follows it
+-- a text, and then a prefix of what follows it
 pub SendsPrefix-behind : (a b c : Option (List ℕ)) (text more : List ℕ)
     → Appends a b text → SendsPrefix b c more → SendsPrefix a c (text ++ more)
 SendsPrefix-behind a b c text more before part = (
@@ -67,19 +67,19 @@ SendsPrefix-behind a b c text more before part = (
   rw (take-append-add text more part.0) (Appends-trans a b c text (take part.0 more) before part.2),
 )
 
--- what went over of a pending text is a front of it
+-- what went over of a pending text is a prefix of it
 pub SendsPrefix-of_pending : (a b : Option (List ℕ)) (buffer text : List ℕ)
     → Pending a b buffer text → SendsPrefix a b text
 SendsPrefix-of_pending a b buffer text before =
     subst (SendsPrefix a b) before.2 (SendsPrefix-more a b before.0 buffer (SendsPrefix-whole a b before.0 before.1))
 
--- a front of the buffer went over, and so a front of the text
+-- a prefix of the buffer went over, and so a prefix of the text
 pub SendsPrefix-pending : (a b c : Option (List ℕ)) (buffer text : List ℕ)
     → Pending a b buffer text → SendsPrefix b c buffer → SendsPrefix a c text
 SendsPrefix-pending a b c buffer text before part =
     subst (SendsPrefix a c) before.2 (SendsPrefix-behind a b c before.0 buffer before.1 part)
 
--- a line came behind the buffer, and then a front of both went over
+-- a line came after the buffer, and then a prefix of both went over
 pub SendsPrefix-line : (a b c : Option (List ℕ)) (buffer text line : List ℕ)
     → Pending a b buffer text → SendsPrefix b c (buffer ++ line) → SendsPrefix a c (text ++ line)
 SendsPrefix-line a b c buffer text line before part =

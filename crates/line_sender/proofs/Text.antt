@@ -21,7 +21,7 @@ text_of-take_more lines i line within same =
     ∙ sym (text_of-append (take i lines) (get_or lines i line ∷ []))
     ∙ ap text_of (sym (take_more lines i line within))
 
--- a front of the first lines' text is a front of the whole text
+-- a prefix of the first lines' text is a prefix of the whole text
 pub SendsPrefix-take : (a b : Option (List ℕ)) (lines : List Line) (n : ℕ)
     → SendsPrefix a b (text_of (take n lines)) → SendsPrefix a b (text_of lines)
 SendsPrefix-take a b lines n part =

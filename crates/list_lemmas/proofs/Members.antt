@@ -18,7 +18,7 @@ has-only x y (suc k, below, is) = absurd (omega (arith, below))
 pub has-first : {X : Type 0} (x : X) (xs : List X) → Contains (x ∷ xs) x
 has-first x xs = (0, omega arith, refl)
 
--- and each element behind
+-- and each element after
 pub has-later : {X : Type 0} (x y : X) (xs : List X) → Contains xs y → Contains (x ∷ xs) y
 has-later x y xs (k, below, is) = (suc k, omega (arith, below), is)
 

@@ -57,7 +57,7 @@ pub record IsBare (image : Image) (nodes : List Node) (address : ℕ) : Type 0 w
   pub text : IsText image address
   pub bare : (n : ℕ) → IsNodeAt nodes address n → ⊥
 
--- a range of such words that doesn't go on behind its last
+-- a range of such words that doesn't go on after its last
 pub record IsBareRange (image : Image) (nodes : List Node) (first last : ℕ) : Type 0 where
   pub ends : Contains (range_addresses first last) last
   pub words : AllByRecursion (IsBare image nodes) (range_addresses first last)
@@ -75,7 +75,7 @@ last_of (At at verdict) = at
 last_of (Context node at depth back verdict) = at
 last_of (Unreachable first last) = last
 
--- the first line by address from a place on, and the word behind it, if there is one; none where no word is left
+-- the first line by address from a place on, and the word after it, if there is one; none where no word is left
 abbrev pub IsByAddress : Image → List Node → List Verdict → ℕ → Option (Line × Option ℕ) → Type 0
 IsByAddress image nodes verdicts from None = IsNextText image from None
 IsByAddress image nodes verdicts from (Some (line, next)) =
@@ -91,7 +91,7 @@ IsLineOf configurations verdicts number (Context node at depth back verdict) =
 IsLineOf configurations verdicts number (At at verdict) = ⊥
 IsLineOf configurations verdicts number (Unreachable first last) = ⊥
 
--- the line of a configuration, and the number behind its own, if there is one; none where the number is that of none
+-- the line of a configuration, and the number after its own, if there is one; none where the number is that of none
 abbrev pub IsByNumber : List Configuration → List Verdict → ℕ → Option (Line × Option ℕ) → Type 0
 IsByNumber configurations verdicts from None = length configurations ≤ from
 IsByNumber configurations verdicts from (Some (line, next)) =

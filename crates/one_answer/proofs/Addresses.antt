@@ -20,7 +20,7 @@ use Rattle.one_answer.proofs.Verdicts.{one_verdict, reached}
 abbrev listed : List Line → List ℕ
 listed lines = flat_map addresses_of lines
 
--- what is behind fewer words begins with the word behind them, where more words are the same list
+-- what is after fewer words begins with the word after them, where more words are the same list
 behind_fewer : (first n more : ℕ) (xs ys : List ℕ) → words_from first n ++ xs ≡ words_from first (n + suc more) ++ ys
     → xs ≡ words_from (first + 4 * n) (suc more) ++ ys
 behind_fewer first zero more xs ys same =
@@ -34,13 +34,13 @@ behind_fewer first (suc n) more xs ys same =
     let rest : words_from (first + 4) n ++ xs ≡ words_from (first + 4) (n + suc more) ++ ys = cc opened in
     behind_fewer (first + 4) n more xs ys rest ∙ ap (λ p. words_from p (suc more) ++ ys) there
 
--- what is behind as many words is the same
+-- what is after as many words is the same
 behind_same : (first n : ℕ) (xs ys : List ℕ) → words_from first n ++ xs ≡ words_from first n ++ ys → xs ≡ ys
 behind_same first zero xs ys same = same
 behind_same first (suc n) xs ys same =
     let rest : words_from (first + 4) n ++ xs ≡ words_from (first + 4) n ++ ys = cc same in behind_same (first + 4) n xs ys rest
 
--- the word behind so many is among more
+-- the word with index `k` is among the first `n`
 word_among : (first n k : ℕ) → k < n → Contains (words_from first n) (first + 4 * k)
 word_among first zero k below = absurd (omega (arith, below))
 word_among first (suc n) zero below =
@@ -60,7 +60,7 @@ end_of : (first last : ℕ) → Contains (range_addresses first last) last → l
 end_of first last ends =
     let (i, below, at) = word_place first (words_in first last) last ends in omega (arith, below, at)
 
--- lines behind a range are as they were without it
+-- lines after a range are as they were without it
 greatest_behind : (first last : ℕ) (lines : List Line) → AreGreatest (Unreachable first last ∷ lines) → AreGreatest lines
 greatest_behind first last [] greatest = tt
 greatest_behind first last (At at verdict ∷ lines) greatest = greatest
@@ -87,7 +87,7 @@ module _ (image : Image) (entry : ℕ) (g : Geometry) where
       let opened : words_from first (suc ((last - first) / 4)) ++ listed lines ≡ [] = ap (λ k. words_from first k ++ listed lines) (sym one) ∙ none in
       absurd (cc opened)
 
-  -- lines behind a range don't begin with the address behind it, where no path reaches that
+  -- lines after a range don't begin with the address after it, where no path reaches that
   nothing_behind : (first last p : ℕ) (lines : List Line) (others : List ℕ) → AreGreatest (Unreachable first last ∷ lines) → AreRight lines
       → IsUnreached image entry p → p ≡ last + 4 → listed lines ≡ p ∷ others → ⊥
   nothing_behind first last p [] others greatest right unreached behind begins = absurd (cc begins)
@@ -152,7 +152,7 @@ module _ (image : Image) (entry : ℕ) (g : Geometry) where
       subst (λ p. Contains (range_addresses first last) p) here (word_among first (words_in first last) 0 (omega arith)) in
       not_reached first at verdict (each-has (IsUnreached image entry) (range_addresses first last) range.1 first among) (sym one) right
 
-  -- two ranges in front of lists that are alike are one, and what is behind them is alike
+  -- two ranges before lists that are alike are one, and what comes after them is alike
   same_range : (first first' last last' : ℕ) (lines others : List Line) → AreRight (Unreachable first last ∷ lines)
       → AreRight (Unreachable first' last' ∷ others) → AreGreatest (Unreachable first last ∷ lines) → AreGreatest (Unreachable first' last' ∷ others)
       → first ≡ first' → listed (Unreachable first last ∷ lines) ≡ listed (Unreachable first' last' ∷ others)

@@ -33,7 +33,7 @@ one_place (y ∷ xs) (suc n) zero x apart is is' =
     let same : x ≡ y = cc is' in absurd (apart.0 (subst (λ z. Contains xs z) same (has-found xs n x is)))
 one_place (y ∷ xs) (suc n) (suc m) x apart is is' = ap suc (one_place xs n m x apart.1 is is')
 
--- lists of which nothing is in both, one behind the other
+-- lists of which nothing is in both, one after the other
 apart-append : {A : Type 0} (xs ys : List A) → AreApart xs → AreApart ys → ((x : A) → Contains xs x → Contains ys x → ⊥) → AreApart (xs ++ ys)
 apart-append [] ys first second none = second
 apart-append (x ∷ xs) ys first second none = (
@@ -75,7 +75,7 @@ module _ (step : Step) (entry : ℕ) where
       let (m, above, is) = in_some (n + 1) layers are.1 c later in
       is.no_sooner n (omega (arith, above)) ((are.0.members c).0 here).reached)
 
-  -- the front of some layers
+  -- the first of some layers
   front : (n : ℕ) (layers rest : List (List Configuration)) → Are n (layers ++ rest) → Are n layers
   front n [] rest are = tt
   front n (layer ∷ layers) rest are = (are.0, front (n + 1) layers rest are.1)

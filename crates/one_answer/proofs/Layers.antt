@@ -33,7 +33,7 @@ module _ {C F : Type 0} (step : C → Result (List C) F) (start : C) (order : C 
     },
   )
 
-  -- behind an empty layer comes an empty one
+  -- after an empty layer comes an empty one
   none_next : (n : ℕ) (layer : List C) → IsLayer step start order n [] → IsLayer step start order (n + 1) layer → layer ≡ []
   none_next n layer empty is =
       empty-none layer (λ c has.
@@ -42,7 +42,7 @@ module _ {C F : Type 0} (step : C → Result (List C) F) (start : C) (order : C 
       let (b, before) = from_layer n c it.no_sooner earlier long path in
       let (k, lt, at) = (empty.members b).1 before in omega (arith, lt))
 
-  -- and so all behind it are
+  -- and so all after it are
   pub none_behind : (n : ℕ) (layers : List (List C)) → IsLayer step start order n [] → AreLayersFrom step start order (n + 1) layers
       → AllByRecursion (λ (layer : List C). layer ≡ []) layers
   none_behind n [] empty are = tt
@@ -50,7 +50,7 @@ module _ {C F : Type 0} (step : C → Result (List C) F) (start : C) (order : C 
       let none = none_next n layer empty are.0 in
       (none, none_behind (n + 1) layers (subst (IsLayer step start order (n + 1)) none are.0) are.1)
 
-  -- those behind some layers, where one of them is empty
+  -- those after some layers, where one of them is empty
   pub none_from : (n : ℕ) (earlier rest : List (List C)) → AreLayersFrom step start order n (earlier ++ [] ∷ rest)
       → AllByRecursion (λ (layer : List C). layer ≡ []) rest
   none_from n [] rest are = none_behind n rest are.0 are.1

@@ -12,7 +12,7 @@ use Rattle.std.proofs.lemmas.Map.Keys.{sorted_from_strictly_increasing}
 use Rattle.list_lemmas.proofs.Members.{has-first, has-later, has-cases, empty-none, each-has}
 
 module _ {A : Type 0} (order : A → A → Ordering) (total : IsTotalOrder order) where
-  -- nothing comes both before and behind another
+  -- nothing comes both before and after another
   pub one_way : (x y : A) → order x y ≡ Less → order y x ≡ Less → ⊥
   one_way x y before behind =
       let turned : order x y ≡ ordering_reverse (order y x) = total.antisymm x y in
@@ -31,7 +31,7 @@ module _ {A : Type 0} (order : A → A → Ordering) (total : IsTotalOrder order
     ]
   ]
 
-  -- what is behind the first of one list is behind that of the other
+  -- what is after the first of one list is after that of the other
   same_later : (x y : A) (xs ys : List A) → x ≡ y → AllByRecursion (λ z. order x z ≡ Less) xs
       → ((z : A) → Contains (x ∷ xs) z → Contains (y ∷ ys) z) → (z : A) → Contains xs z → Contains ys z
   same_later x y xs ys same before there z has = elim (has-cases y z ys (there z (has-later x z xs has))) [

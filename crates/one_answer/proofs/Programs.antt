@@ -17,7 +17,7 @@ use Rattle.flow_spec.proofs.Ordered.{configurations_total}
 use Rattle.call_expand.proofs.Zipped.{all-front, all-back}
 use Rattle.one_answer.proofs.Layers.{EndsWithin, none_from, meet}
 
--- the configurations of layers that go on behind some
+-- the configurations of layers that go on after some
 all_split : (earlier rest : List (List Configuration)) (last : List Configuration) → all_of (earlier ++ last ∷ rest) ≡ all_of earlier ++ (last ++ all_of rest)
 all_split earlier rest last = flat_map-append (λ (layer : List Configuration). layer) earlier (last ∷ rest)
 
@@ -86,7 +86,7 @@ module _ (step : Step) where
         → ((earlier ≡ others) × (last ≡ end)) ⊎ (EndsWithin earlier last others ⊎ EndsWithin others end earlier)
     met earlier others last end = meet step (start_of entry) configuration_cmp configurations_total 0 earlier others last end
 
-    -- layers that go on behind an empty one go on with empty ones
+    -- layers that go on after an empty one go on with empty ones
     behind_empty : (earlier others : List (List Configuration)) (end : List Configuration) → EndsWithin earlier [] others → Are (others ++ end ∷ [])
         → (rest : List (List Configuration)) × (others ≡ earlier ++ [] ∷ rest)
         × AllByRecursion (λ (layer : List Configuration). layer ≡ []) (rest ++ end ∷ [])

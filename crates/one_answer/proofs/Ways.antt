@@ -22,7 +22,7 @@ AreFew {C} step = (c first second third : C) (others : List C) → step c ≡ Ok
 apart : (a b : ℕ) (xs ys : List ℕ) → a ∷ xs ≡ b ∷ ys → (a ≡ b → ⊥) → ⊥
 apart a b xs ys same differ = let heads : a ≡ b = cc same in differ heads
 
--- what is behind one front
+-- what comes after one prefix
 behind : (front xs ys : List ℕ) → front ++ xs ≡ front ++ ys → xs ≡ ys
 behind [] xs ys same = same
 behind (x ∷ front) xs ys same = let rest : front ++ xs ≡ front ++ ys = cc same in behind front xs ys rest

@@ -35,7 +35,7 @@ paths-same nodes (d ∷ c ∷ one) (e ∷ f ∷ two) a b r s graph long p q has 
     let there : d ≡ e = (some_pair_parts d e (length has.1) (length other.1) same).0 in
     cc (there, rest)
 
--- two paths that are told by the same steps and choices are the same
+-- two paths with the same steps and choices are the same
 pub followed-same : (nodes : List Node) (steps : ℕ) (choices one two : List ℕ) → IsGraph nodes
     → IsFollowed nodes steps choices one → IsFollowed nodes steps choices two → one ≡ two
 followed-same nodes steps choices one two graph first second =

@@ -12,7 +12,7 @@ use Rattle.path_model.proofs.Edges.{LeadsTo, node-from_successor, successor-from
 use Rattle.path_model.proofs.Moves.{IsPath-suffix}
 use Rattle.path_model.proofs.Choices.{choices-unique, choices-prefix, next_by-right, next_by-only}
 
--- the members so far, the last of them first; each path that is told so goes on from them
+-- the members so far, the last of them first; each path of these steps and choices goes on from them
 pub record IsWalked (nodes : List Node) (steps : ℕ) (choices members : List ℕ) (last used : ℕ) : Type 0 where
   pub earlier : List ℕ
   pub ends : members ≡ last ∷ earlier
@@ -93,7 +93,7 @@ one_more other later tail on more =
     let first = last_of later (omega (arith, ap length on, length-append later tail)) in
     (first.0, first.1, on ∙ ap (λ xs. xs ++ tail) first.2 ∙ append_assoc first.0 (first.1 ∷ []) tail)
 
--- the next member of a path that is told so is the one of the move
+-- the next member of a path of these steps and choices is the one of the move
 pub next-only : (nodes : List Node) (steps : ℕ) (choices members : List ℕ) (last used : ℕ) (other : List ℕ) → IsGraph nodes
     → IsWalked nodes steps choices members last used → length members < steps → IsFollowed nodes steps choices other
     → (front : List ℕ) × (d : ℕ) × (letter : List ℕ) × (other ≡ front ++ d ∷ members) × (next_to (slice_get nodes last) (slice_get choices used) ≡ Some (d, length letter))
@@ -136,7 +136,7 @@ walked_more nodes steps choices members last used to k graph walked more next =
           (on.0, on.3 ∙ ap (λ x. on.0 ++ x ∷ members) same ∙ ap (λ xs. on.0 ++ to ∷ xs) walked.ends);
     }
 
--- where there is no move, there is no path that is told so
+-- where there is no move, there is no path of these steps and choices
 pub stuck : (nodes : List Node) (steps : ℕ) (choices members : List ℕ) (last used : ℕ) → IsGraph nodes
     → IsWalked nodes steps choices members last used → length members < steps
     → next_to (slice_get nodes last) (slice_get choices used) ≡ None
@@ -157,7 +157,7 @@ walked_all nodes steps choices members last used walked done taken =
           (subst (λ (cs : List ℕ). HasChoices step (last ∷ walked.earlier) cs) (take_all used choices taken) walked.takes);
     }
 
--- with all steps done and choices left over, there is no path that is told so
+-- with all steps done and choices left over, there is no path of these steps and choices
 pub left_over : (nodes : List Node) (steps : ℕ) (choices members : List ℕ) (last used : ℕ) → IsGraph nodes
     → IsWalked nodes steps choices members last used → steps ≤ length members → used < length choices
     → (other : List ℕ) → IsFollowed nodes steps choices other → ⊥

@@ -1,10 +1,10 @@
--- Paths that are told by their number of members and their choices.
+-- Paths by their number of members and their choices.
 use Rattle.std.specs.Prelude.{◌≡◌, ℕ, ◌==◌, if◌then◌else◌, List, length, Option, Some, None}
 use Rattle.transition_spec.specs.Path.{IsPath, HasChoices}
 use Rattle.path_model.specs.declared.graph.Node.{Node}
 use Rattle.path_model.specs.Graph.{graph_step}
 
--- a path from node 0, its last member first, that has so many members and takes these choices
+-- a path from node 0, its last member first, that has `steps` members and takes these choices
 pub record IsFollowed (nodes : List Node) (steps : ℕ) (choices members : List ℕ) : Type 0 where
   pub path : IsPath (graph_step nodes) 0 members
   pub as_long : length members ≡ steps

@@ -27,7 +27,7 @@ address_of nodes n = address (slice_get nodes n)
 abbrev pub addresses_of : List Node → List ℕ
 addresses_of nodes = map (λ (node : Node). node.at) nodes
 
--- two successors are below the count: a second one only behind a first, and another than it
+-- two successors are below the count: a second one only after a first, and another than it
 abbrev pub are_fit : ℕ → Option ℕ → Option ℕ → Bool
 are_fit count None None = true
 are_fit count None (Some second) = false

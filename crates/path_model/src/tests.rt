@@ -7,7 +7,7 @@ fn node(at: u32, first: Option<u32>, second: Option<u32>) -> Node {
     Node { at, first, second }
 }
 
-// Three words: behind the second stands the third or the first again, and the third has none.
+// Three words: after the second stands the third or the first again, and the third has none.
 const LOOP: [Node; 3] = [
     Node {
         at: 0x10000,

@@ -35,7 +35,7 @@ IsChain entries (Some number) [] = ⊥
 IsChain entries (Some number) (node ∷ earlier) =
     (node ≡ node_at entries number) × IsChain entries (earlier_at entries number) earlier
 
--- an entry behind this one may be at the node: the one before it has a smaller number and leads to the node
+-- an entry after this one may be at the node: the one before it has a smaller number and leads to the node
 abbrev pub LeadsOn : List Node → List TrailEntry → ℕ → Option ℕ → ℕ → Type 0
 LeadsOn nodes entries number None node = node ≡ 0
 LeadsOn nodes entries number (Some earlier) node =

@@ -30,7 +30,7 @@ pub trait Trail {
 /// The path that leads to an entry: the nodes of the entries before it, the first of them first, and then its own.
 ///
 /// Each entry before another has a smaller number and leads to the other's node, and one without an entry before it is
-/// at node 0. An error is want of memory. It takes time in the order of the path's length.
+/// at node 0. The error is out of memory. It takes time in the order of the path's length.
 pub fn trace<T: Trail>(
     alloc: Global,
     graph: &Graph,

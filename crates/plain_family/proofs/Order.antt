@@ -12,7 +12,7 @@ use Rattle.std.specs.declared.cmp.Ordering.TheVariants.{Greater}
 use Rattle.set_list.specs.Rising.{AllPairs-insert, Contains-insert}
 use Rattle.plain_family.specs.Family.{IsBefore, IsFamily, IsPlaceOf}
 
--- a set behind another, the other way round
+-- a set after another, the other way round
 before_back : (s t : List ℕ) → slice_cmp nat_cmp s t ≡ Greater → IsBefore t s
 before_back s t behind = nat_list_cmp_total.antisymm t s ∙ ap ordering_reverse behind
 

@@ -43,7 +43,7 @@ impl PlainFamily {
         }
     }
 
-    /// The family of this one set. An error is want of memory.
+    /// The family of this one set. The error is out of memory.
     pub fn of(alloc: Global, set: &SetList) -> Result<Self, AllocError>
         ensures sets { IfOk result (λ family. family ≡ set.now ∷ []) }
         ensures order { IfOk result (λ family. IsFamily family) }
@@ -69,7 +69,7 @@ impl PlainFamily {
         &self.sets
     }
 
-    /// The sets of both families. An error is want of memory.
+    /// The sets of both families. The error is out of memory.
     pub fn union(&self, other: &PlainFamily) -> Result<Self, AllocError>
         ensures sets { IfOk result (λ family. (s : List ℕ) → Contains family s ↔ (Contains self.now s ⊎ Contains other.now s)) }
         ensures order { IfOk result (λ family. IsFamily family) }
@@ -80,7 +80,7 @@ impl PlainFamily {
         Ok(family)
     }
 
-    /// The sets with fewer than `k` numbers. An error is want of memory.
+    /// The sets with fewer than `k` numbers. The error is out of memory.
     pub fn below(&self, k: u32) -> Result<Self, AllocError>
         ensures sets { IfOk result (λ family. (s : List ℕ) → Contains family s ↔ (Contains self.now s × (length s < k))) }
         ensures order { IfOk result (λ family. IsFamily family) }
@@ -95,7 +95,7 @@ impl PlainFamily {
         Ok(family)
     }
 
-    /// Each set with `x` added to it, which may make sets equal. An error is want of memory.
+    /// Each set with `x` added to it, which may make sets equal. The error is out of memory.
     pub fn insert_each(&self, x: u16) -> Result<Self, AllocError>
         ensures sets { IfOk result (λ family. (s : List ℕ) → Contains family s ↔ ((t : List ℕ) × Contains self.now t × IsWith x t s)) }
         ensures order { IfOk result (λ family. IsFamily family) }
@@ -108,7 +108,7 @@ impl PlainFamily {
         Ok(family)
     }
 
-    /// The sets in which no other set of the family is included. An error is want of memory. It takes as many tests for
+    /// The sets in which no other set of the family is included. The error is out of memory. It takes as many tests for
     /// a subset as there are pairs of sets.
     pub fn minimal(&self) -> Result<Self, AllocError>
         ensures sets { IfOk result (λ family. (s : List ℕ) → Contains family s ↔ (Contains self.now s × IsMinimal self.now s)) }
@@ -124,7 +124,7 @@ impl PlainFamily {
         Ok(family)
     }
 
-    /// The sets that no other set of the family includes. An error is want of memory. It takes as many tests for a
+    /// The sets that no other set of the family includes. The error is out of memory. It takes as many tests for a
     /// subset as there are pairs of sets.
     pub fn maximal(&self) -> Result<Self, AllocError>
         ensures sets { IfOk result (λ family. (s : List ℕ) → Contains family s ↔ (Contains self.now s × IsMaximal self.now s)) }

@@ -21,7 +21,7 @@ use Rattle.report_lines.proofs.Words.{IsListed, listed_words, word_place, all_we
 both : (image : Image) (p : ℕ) → IsTrue (is_text image p) → IsFalse (is_text image p) → ⊥
 both image p text bare = cc (text, bare)
 
--- what begins behind a word begins at the next word
+-- what begins after a word begins at the next word
 listed_from_next : (image : Image) (from p : ℕ) (words : List ℕ) → IsNextText image from (Some p) → IsListed image p words
     → IsListed image from words
 listed_from_next image from p words next listed = record {
@@ -73,7 +73,7 @@ module _ (image : Image) (entry : ℕ) (g : Geometry) (configurations : List Con
       let one : n + 1 ≡ suc n = omega arith in
       (subst (λ (k : ℕ). AllByRecursion (IsBare image nodes) (words_from first k)) one all).0
 
-  -- a line in front of those behind its last address
+  -- a line before those after its last address
   with_line : (p : ℕ) (line : Line) (lines : List Line) → IsText image p → IsLineAt image nodes verdicts p line
       → Listed (last_of line + 4) lines → Listed p (line ∷ lines)
   with_line p (Context node at depth back verdict) lines text is behind = absurd is
@@ -111,7 +111,7 @@ module _ (image : Image) (entry : ℕ) (g : Geometry) (configurations : List Con
         begins = first_bare first ((last - first) / 4) range.words;
       })
 
-  -- what begins behind a line, where those from the next word on are listed
+  -- what begins after a line, where those from the next word on are listed
   behind_line : (from : ℕ) (lines : List Line) → ((q : ℕ) → AreAllFrom (IsByAddress image nodes verdicts) (Some q) lines → Listed q lines)
       → (next : Option ℕ) → IsNextText image from next → AreAllFrom (IsByAddress image nodes verdicts) next lines → Listed from lines
   behind_line from lines later None none empty = subst (λ (ls : List Line). Listed from ls) (sym empty)

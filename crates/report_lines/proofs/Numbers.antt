@@ -56,7 +56,7 @@ module _ (image : Image) (entry : ℕ) (g : Geometry) (configurations : List Con
       subst (λ (c : Configuration). IsContextLine image entry g k c (Context node at depth back verdict)) same
       (number, at_is, depth_is, back_is, subst (λ (c : Configuration). IsRight image entry g (λ e. e ≡ c) verdict) here right)
 
-  -- what stands behind a number, where the lines from the next on are those of the configurations left
+  -- what stands after a number, where the lines from the next on are those of the configurations left
   behind_number : (k : ℕ) (lines : List Line) → (AreAllFrom (IsByNumber configurations verdicts) (Some (k + 1)) lines
       → AreContextLines image entry g (k + 1) (drop (k + 1) configurations) lines)
       → (next : Option ℕ) → next ≡ (if nat_lt (k + 1) (length configurations) then Some (k + 1) else None)
@@ -72,7 +72,7 @@ module _ (image : Image) (entry : ℕ) (g : Geometry) (configurations : List Con
       subst (λ (ls : List Line). AreContextLines image entry g (k + 1) (drop (k + 1) configurations) ls) (sym none)
       (subst (λ (cs : List Configuration). AreContextLines image entry g (k + 1) cs []) (sym (drop_past configurations (k + 1) past)) tt)
 
-  -- a line of a configuration, and those behind it
+  -- a line of a configuration, and those after it
   with_context : (k : ℕ) (line : Line) (lines : List Line) → IsLineOf configurations verdicts k line
       → AreContextLines image entry g (k + 1) (drop (k + 1) configurations) lines
       → AreContextLines image entry g k (drop k configurations) (line ∷ lines)
@@ -102,17 +102,17 @@ module _ (image : Image) (entry : ℕ) (g : Geometry) (configurations : List Con
         (refl, is_v, (c, is_c, refl, refl, refl)),
       )
 
-  -- the number behind one, where it is that of a configuration
+  -- the number after one, where it is that of a configuration
   abbrev behind_of : ℕ → Option ℕ
   behind_of k = if nat_lt (k + 1) (length configurations) then Some (k + 1) else None
 
-  -- there are lines from the number behind one on, where there are such from it on
+  -- there are lines from the number after one on, where there are such from it on
   rest_there : (k : ℕ) → ((lines : List Line) × AreAllFrom (IsByNumber configurations verdicts) (Some (k + 1)) lines) → (more : Bool)
       → (lines : List Line) × AreAllFrom (IsByNumber configurations verdicts) (if more then Some (k + 1) else None) lines
   rest_there k later true = later
   rest_there k later false = ([], refl)
 
-  -- a line in front, where the number is that of a configuration
+  -- one line more, where the number is that of a configuration
   number_left : (k : ℕ) → ((lines : List Line) × AreAllFrom (IsByNumber configurations verdicts) (Some (k + 1)) lines) → (inside : Bool)
       → nat_lt k (length configurations) ≡ inside → (lines : List Line) × AreAllFrom (IsByNumber configurations verdicts) (Some k) lines
   number_left k later false is = ([], grind (arith, nat_tests, is))

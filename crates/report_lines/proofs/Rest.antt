@@ -140,7 +140,7 @@ none_of true never = absurd (never refl)
 none_of false never = refl
 
 module _ (image : Image) (within : IsWithin image) where
-  -- what is next from the address behind one that isn't in the text is next from there
+  -- what is next from the address after one that isn't in the text is next from there
   skip : (from : ℕ) (next : Option ℕ) → is_text image from ≡ false → IsNextText image (from + 1) next → IsNextText image from next
   skip from None bare later = λ n at. none_of (is_text image n) (λ text. at_or_behind n at text (n == from) refl) where
     at_or_behind : (n : ℕ) → from ≤ n → IsTrue (is_text image n) → (same : Bool) → (n == from) ≡ same → ⊥
@@ -157,7 +157,7 @@ module _ (image : Image) (within : IsWithin image) where
     at_or_behind n at text false is =
         let behind : from + 1 ≤ n = grind (arith, nat_tests, is, at) in later.2 n behind text
 
-  -- the next word is here, or behind
+  -- the next word is here, or after
   here_or_behind : (from : ℕ) → ((next : Option ℕ) × IsNextText image (from + 1) next) → (text : Bool) → is_text image from ≡ text
       → (next : Option ℕ) × IsNextText image from next
   here_or_behind from later true is = (Some from, (is, omega arith, λ n at text. at))
@@ -227,13 +227,13 @@ module _ (image : Image) (within : IsWithin image) where
       behind_word from later None order = ([], refl)
       behind_word from later (Some q) order = later q (order q refl)
 
-      -- the next word lies behind
+      -- the next word lies after
       next_behind : (from last : ℕ) (next : Option ℕ) → from < last + 4 → IsNextText image (last + 4) next → (q : ℕ) → next ≡ Some q
           → from < q
       next_behind from last None order is q same = absurd (cc same)
       next_behind from last (Some r) order is q same = let one : r ≡ q = cc same in omega (arith, order, is.1, one)
 
-      -- the line of the next word, and the lines behind it
+      -- the line of the next word, and the lines after it
       at_word : (from : ℕ) → ((q : ℕ) → from < q → (lines : List Line) × AreAllFrom (IsByAddress image nodes verdicts) (Some q) lines)
           → (next : Option ℕ) → IsNextText image from next
           → (lines : List Line) × AreAllFrom (IsByAddress image nodes verdicts) (Some from) lines

@@ -41,7 +41,7 @@ pub record IsListed (image : Image) (from : ℕ) (words : List ℕ) : Type 0 whe
   pub sound : (x : ℕ) → Contains words x → IsText image x × (from ≤ x)
   pub complete : (x : ℕ) → IsText image x → from ≤ x → Contains words x
 
--- one word more in front
+-- one word more before the others
 listed_word : (image : Image) (p : ℕ) (words : List ℕ) → IsText image p → IsListed image (p + 4) words → IsListed image p (p ∷ words)
 listed_word image p words text listed = record {
   rising = rising_cons p words listed.rising (λ y has. let at = (listed.sound y has).1 in omega (arith, at));
@@ -60,7 +60,7 @@ listed_word image p words text listed = record {
       let x_whole = text_aligned image x x_text in
       has-later p x words (listed.complete x x_text (omega (arith, other, whole, x_whole)))
 
--- words that are all in the text, in front of those behind them
+-- words that are all in the text, before those after them
 pub listed_words : (image : Image) (p n : ℕ) (words : List ℕ) → AllByRecursion (IsText image) (words_from p n)
     → IsListed image (p + 4 * n) words → IsListed image p (words_from p n ++ words)
 listed_words image p zero words all listed =

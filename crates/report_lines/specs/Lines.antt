@@ -1,4 +1,4 @@
--- Lines that follow one another, each from the place behind the one before.
+-- Lines that follow one another, each from the place after the one before.
 use Rattle.std.specs.Prelude.{◌≡◌, ℕ, Bool, true, false, List, [], ◌∷◌, ◌++◌, Option, Some, None}
 use Rattle.elf_spec.specs.Image.{Image}
 use Rattle.flow_spec.specs.Configuration.{Configuration}
@@ -7,7 +7,7 @@ use Rattle.report_spec.specs.declared.line.Line.{Line}
 use Rattle.report_spec.specs.declared.line.Verdict.{Verdict}
 use Rattle.node_spec.specs.Plan.{IsByAddress, IsByNumber}
 
--- which line, and which place behind it, stands at a place
+-- which line, and which place after it, stands at a place
 abbrev pub Stands : Bool → Image → List Configuration → List Node → List Verdict → ℕ → Option (Line × Option ℕ) → Type 0
 Stands true image configurations nodes verdicts = IsByNumber configurations verdicts
 Stands false image configurations nodes verdicts = IsByAddress image nodes verdicts

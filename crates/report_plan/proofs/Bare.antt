@@ -12,7 +12,7 @@ use Rattle.path_model.specs.declared.graph.Node.{Node}
 use Rattle.report_spec.specs.Report.{words_from, range_addresses}
 use Rattle.node_spec.specs.Plan.{IsBare, IsBareRange, IsNodeAt}
 
--- what holds of the words of a range and of the word behind it holds of the range with that word
+-- what holds of the words of a range and of the word after it holds of the range with that word
 all-more : (P : ℕ → Type 0) (first count : ℕ) → AllByRecursion P (words_from first count) → P (first + 4 * count) → AllByRecursion P (words_from first (suc count))
 all-more P first zero all next = (subst P (let same : first + 4 * zero ≡ first = omega arith in same) next, tt)
 all-more P first (suc count) all next =
@@ -44,7 +44,7 @@ bare-more image nodes first last next so_far is bare = record {
       (let P : ℕ → Type 0 = IsBare image nodes in let same : next ≡ first + 4 * suc so_far.count = omega (arith, so_far.is) in subst P same bare);
 }
 
--- the range, where the word behind it isn't bare
+-- the range, where the word after it isn't bare
 pub bare-range : (image : Image) (nodes : List Node) (first last : ℕ) → IsBareTo image nodes first last → (IsBare image nodes (last + 4) → ⊥)
     → IsBareRange image nodes first last
 bare-range image nodes first last whole ends =
@@ -59,7 +59,7 @@ bare-range image nodes first last whole ends =
       greatest = ends;
     }
 
--- where nodes are at the next word, no bare one is right behind
+-- where nodes are at the next word, no bare one is right after
 pub node-bare : (image : Image) (nodes : List Node) (address next : ℕ) (here : List ℕ) → IsNextText image (address + 4) (Some next) → next - address ≤ 4
     → ((n : ℕ) → Contains here n → IsNodeAt nodes next n) → 0 < length here → IsBare image nodes (address + 4) → ⊥
 node-bare image nodes address next here is near at some bare =

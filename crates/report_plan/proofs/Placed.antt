@@ -32,13 +32,13 @@ sorted-in_order nodes order rising moved = record {
   );
 }
 
--- the first so many nodes are below the address, and no other is
+-- the first `count` nodes are below the address, and no other is
 pub record AreBelow (nodes : List Node) (order : List ℕ) (address count : ℕ) : Type 0 where
   pub below : AllWithin (λ n. address_of nodes n < address) order 0 count
   pub others : AllWithin (λ n. address ≤ address_of nodes n) order count (length order)
   pub within : count ≤ length order
 
--- the first so many nodes are at or below the address, and no other is
+-- the first `count` nodes are at or below the address, and no other is
 pub record AreUpTo (nodes : List Node) (order : List ℕ) (address count : ℕ) : Type 0 where
   pub up_to : AllWithin (λ n. address_of nodes n ≤ address) order 0 count
   pub others : AllWithin (λ n. address < address_of nodes n) order count (length order)

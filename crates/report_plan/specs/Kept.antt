@@ -33,7 +33,7 @@ abbrev pub noted : List ℕ → ℕ → Option ℕ → List ℕ
 noted before from None = before
 noted before from (Some to) = if nat_lt from to then slice_set before to from else before
 
--- a smaller number that is noted is that of a node before, and each of the first so many nodes that has a greater
+-- a smaller number that is noted is that of a node before, and each of the first `count` nodes that has a greater
 -- successor left a smaller number there
 pub record AreNoted (nodes : List Node) (count : ℕ) (before : List ℕ) : Type 0 where
   pub one_each : length before ≡ length nodes

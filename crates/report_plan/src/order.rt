@@ -18,7 +18,7 @@ fn address_of(nodes: &[Node], number: u32) -> u32
     }
 }
 
-/// So many numbers, from 0 on.
+/// The numbers below `count`, in order.
 pub(crate) fn numbers(alloc: Global, count: usize) -> Result<Vec<u32>, AllocError>
     requires { count ≤ 65536 }
     ensures { IfOk result (λ numbers. numbers.items ≡ range_with_len 0 count) }

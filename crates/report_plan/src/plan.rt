@@ -33,7 +33,7 @@ impl Model for Plan {
 }
 
 impl Plan {
-    /// The plan of an expanded program: two numbers for each node. The error is want of memory. Sorts the nodes once.
+    /// The plan of an expanded program: two numbers for each node. The error is out of memory. Sorts the nodes once.
     pub fn new(alloc: Global, expanded: &Expanded) -> Result<Self, AllocError>
         ensures { IfOk result (IsPlanOf expanded.now.nodes) }
     {
@@ -56,14 +56,14 @@ impl Plan {
         &self.before
     }
 
-    /// The line at a place, and the place behind it, if there is one. The plan is of this program, which has one verdict
+    /// The line at a place, and the place after it, if there is one. The plan is of this program, which has one verdict
     /// for each node. Where the verdicts are valid, so is the line.
     ///
     /// With `contexts` a place is the number of a node, and the line is that node's. Else it is an address, and the line
     /// is that of the least address of the text from it on: the one verdict of all nodes there, or the whole range of
     /// words without nodes that begins there. `None` exactly where no node, or no address of the text, is left.
     ///
-    /// The error is want of memory for the ways of the line. Takes time in the order of the range, or of the nodes where
+    /// The error is out of memory for the ways of the line. Takes time in the order of the range, or of the nodes where
     /// a way has to be made.
     pub fn line(
         &self,
@@ -89,7 +89,7 @@ impl Plan {
         }
     }
 
-    // The line of the least address of the text from one on, and the next address of the text behind it.
+    // The line of the least address of the text from one on, and the next address of the text after it.
     fn line_by_address(
         &self,
         alloc: Global,
@@ -146,7 +146,7 @@ fn last_of(line: &Line) -> u32
     }
 }
 
-// The line of a node, and the next number behind its own.
+// The line of a node, and the next number after its own.
 fn line_by_number(
     alloc: Global,
     expanded: &Expanded,

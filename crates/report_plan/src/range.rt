@@ -8,7 +8,7 @@ use crate::order::nodes_at;
 use elf_image::Image;
 use path_model::Node;
 
-/// The next word of the text behind an address, if there is one.
+/// The next word of the text after an address, if there is one.
 pub(crate) fn word_behind(image: &Image, address: u32) -> Option<u32>
     ensures { IsNextText image.now (address + 4) result }
 {
@@ -18,7 +18,7 @@ pub(crate) fn word_behind(image: &Image, address: u32) -> Option<u32>
     image.word_from(next)
 }
 
-// The word right behind an address, where no node is at it.
+// The word right after an address, where no node is at it.
 fn bare_behind(order: &[u32], image: &Image, nodes: &[Node], address: u32) -> Option<u32>
     requires { AreInOrder nodes.now order.now }
     ensures some { IfSome result (λ next. (next ≡ address + 4) × IsBare image.now nodes.now next) }

@@ -10,7 +10,7 @@ use std::test::Fail;
 
 const STOP: u32 = 0x00100073;
 
-// A branch over a word to two calls of the function at 0x10018, and words behind each that nothing leads to.
+// A branch over a word to two calls of the function at 0x10018, and words after each that nothing leads to.
 const WORDS: [u32; 9] = [
     0x00000463, STOP, 0x010000ef, 0x00c000ef, STOP, STOP, 0x00008067, STOP, STOP,
 ];

@@ -15,7 +15,7 @@ use Rattle.report_spec.specs.declared.line.Line.TheVariants.{At, Context, Unreac
 use Rattle.report_spec.specs.Text.{text_of}
 use Rattle.report_spec.specs.Right.{IsRight, Fetches}
 
--- so many addresses, from one on, each 4 above the one before
+-- `count` addresses, from one on, each 4 above the one before
 abbrev pub words_from : ℕ → ℕ → List ℕ
 words_from address zero = []
 words_from address (suc count) = address ∷ words_from (address + 4) count

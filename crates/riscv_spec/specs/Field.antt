@@ -2,7 +2,7 @@
 use Rattle.std.specs.Prelude.{ℕ, ◌/◌, ◌%◌, ◌^◌, Bool, List, nat_eq}
 use Rattle.std.specs.List.{list_any}
 
--- so many bits of a word, from the bit `low` on
+-- `count` bits of a word, from the bit `low` on
 abbrev pub field : ℕ → ℕ → ℕ → ℕ
 field low count word = word / 2 ^ low % 2 ^ count
 

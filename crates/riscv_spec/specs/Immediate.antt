@@ -2,7 +2,7 @@
 use Rattle.std.specs.Prelude.{ℕ, ◌+◌, ◌-◌, ◌*◌, ◌^◌, ℤ, pos, negsuc, nat_lt, if◌then◌else◌}
 use Rattle.riscv_spec.specs.Field.{field, imm12}
 
--- a number of so many bits, read as two's complement
+-- a number of `bits` bits, read as two's complement
 abbrev pub signed : ℕ → ℕ → ℤ
 signed bits n = if nat_lt n (2 ^ (bits - 1)) then pos n else negsuc (2 ^ bits - 1 - n)
 

@@ -13,7 +13,7 @@ pub record AreFound (wanted items : List ℕ) (found passed : ℕ) : Type 0 wher
   pub found_each : (k : ℕ) → k < found → Contains items (get_or wanted k 0)
   pub missing : found < length wanted → (k : ℕ) → k < passed → get_or items k 0 ≡ get_or wanted found 0 → ⊥
 
--- the item is the next wanted number, and so below the one behind it
+-- the item is the next wanted number, and so below the one after it
 pub found_more : (wanted items : List ℕ) (found passed : ℕ) → IsStrictlyIncreasing wanted → IsStrictlyIncreasing items
     → AreFound wanted items found passed → found < length wanted → passed < length items → get_or wanted found 0 ≡ get_or items passed 0
     → AreFound wanted items (found + 1) (passed + 1)

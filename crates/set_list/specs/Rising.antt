@@ -11,7 +11,7 @@ use Rattle.list_lemmas.proofs.Members.{has-later, has-cases}
 related : {X : Type 0} (R : X → X → Type 0) (a b c d : X) → a ≡ c → b ≡ d → R c d → R a b
 related R a b c d p q r = subst (λ v. R v b) (sym p) (subst (λ v. R c v) (sym q) r)
 
--- behind the new element stands what stood one place before
+-- after the new element stands what stood one place before
 get_or-insert_behind : {X : Type 0} (xs : List X) (i : ℕ) (y d : X) (k : ℕ) → i < k → i ≤ length xs → get_or (insert xs i y) k d ≡ get_or xs (k - 1) d
 get_or-insert_behind xs i y d k behind within =
     let same : k ≡ (k - 1) + 1 = omega arith in
@@ -41,7 +41,7 @@ AllPairs-insert R xs i y within pairs below above j k d before inside =
       ]
     ]
 
--- what a list contains with an element in front
+-- what a list contains with one more element
 pub Contains-front : {X : Type 0} (x : X) (xs : List X) (y : X) → Contains (x ∷ xs) y ↔ (Contains xs y ⊎ (y ≡ x))
 Contains-front x xs y = (
   λ there. elim (has-cases x y xs there) [ inl same ↦ inr same | inr rest ↦ inl rest ],

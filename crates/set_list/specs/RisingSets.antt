@@ -15,13 +15,13 @@ rising-empty k inside = absurd (omega (arith, inside))
 pub rising-one : (x : ℕ) → IsStrictlyIncreasing (x ∷ [])
 rising-one x k inside = absurd (omega (arith, inside))
 
--- a number stands in front of a rising list that it is below
+-- a number stands before a rising list that it is below
 pub rising-cons : (x : ℕ) (xs : List ℕ) → (0 < length xs → x < get_or xs 0 0) → IsStrictlyIncreasing xs
     → IsStrictlyIncreasing (x ∷ xs)
 rising-cons x xs below up zero inside = below (omega (arith, inside))
 rising-cons x xs below up (suc k) inside = rw suc-add (up k (omega (arith, inside)))
 
--- what stands behind the first number rises
+-- what stands after the first number rises
 pub rising-tail : (x : ℕ) (xs : List ℕ) → IsStrictlyIncreasing (x ∷ xs) → IsStrictlyIncreasing xs
 rising-tail x xs up k inside =
     AllPairs-from_increasing (x ∷ xs) up (suc k) (suc (k + 1)) 0 (omega arith) (omega (arith, inside))
@@ -30,7 +30,7 @@ rising-tail x xs up k inside =
 pub first_below : (x : ℕ) (xs : List ℕ) → IsStrictlyIncreasing (x ∷ xs) → 0 < length xs → x < get_or xs 0 0
 first_below x xs up more = up 0 (omega arith)
 
--- what stands behind the first number is above it
+-- what stands after the first number is above it
 pub above_first : (x : ℕ) (xs : List ℕ) (y : ℕ) → IsStrictlyIncreasing (x ∷ xs) → Contains xs y → x < y
 above_first x xs y up there =
     let above : x < get_or xs there.0 y = AllPairs-from_increasing (x ∷ xs) up 0 (suc there.0) y (omega arith) (omega (arith, there.1)) in
@@ -43,7 +43,7 @@ not_below_first x xs y up there = elim ((Contains-front x xs y).0 there) [
   | inr first ↦ omega (arith, first)
 ]
 
--- a number above the first stands behind it
+-- a number above the first stands after it
 pub behind_first : (x : ℕ) (xs : List ℕ) (y : ℕ) → x < y → Contains (x ∷ xs) y → Contains xs y
 behind_first x xs y above there =
     elim ((Contains-front x xs y).0 there) [ inl behind ↦ behind | inr first ↦ absurd (omega (arith, first)) ]

@@ -2,7 +2,7 @@
 //!
 //! `SetList` is seen as the list of its numbers, rising and so without repeats. It stands on std alone, and its proofs on
 //! `list_lemmas`. Its contract gives the layer above each operation on sets as a fact on what the lists contain, and an
-//! order in which sets can be kept, where a front of a set comes before it.
+//! order in which sets can be kept, where a prefix of a set comes before it.
 #![tactic(auto)]
 
 ghost use Rattle.std.specs.Prelude.{◌≡◌, ℕ, ◌↔◌, ◌⊎◌, List, [], length, ◌<◌, ◌≤◌, slice_index, IfOk, OnOk, IsTrue};
@@ -44,7 +44,7 @@ impl SetList {
         }
     }
 
-    /// The same set in memory of its own. An error is want of memory.
+    /// The same set in memory of its own. The error is out of memory.
     pub fn try_clone(&self) -> Result<Self, AllocError>
         ensures value { IfOk result (λ set. set ≡ self.now) }
         ensures rising { IfOk result (λ set. IsStrictlyIncreasing set) }
@@ -54,7 +54,7 @@ impl SetList {
         })
     }
 
-    /// A new set with these numbers and `x`, which may be one of them. An error is want of memory.
+    /// A new set with these numbers and `x`, which may be one of them. The error is out of memory.
     pub fn insert(&self, x: u16) -> Result<Self, AllocError>
         ensures rising { IfOk result (λ set. IsStrictlyIncreasing set) }
         ensures members { IfOk result (λ set. (y : ℕ) → Contains set y ↔ (Contains self.now y ⊎ (y ≡ x))) }
@@ -85,7 +85,7 @@ impl SetList {
         count_found(wanted, other.items()) == wanted.len()
     }
 
-    /// The order of the first numbers that differ; where one set is a front of the other, that one comes first.
+    /// The order of the first numbers that differ; where one set is a prefix of the other, that one comes first.
     pub fn compare(&self, other: &SetList) -> Ordering
         ensures { result ≡ slice_cmp nat_cmp self.now other.now }
     {
@@ -115,7 +115,7 @@ impl SetList {
     }
 }
 
-// How many numbers at the front of `wanted` are found in `items`, where both rise; the next is not there.
+// How many numbers at the beginning of `wanted` are found in `items`, where both rise; the next is not there.
 fn count_found(wanted: &[u16], items: &[u16]) -> usize
     requires wanted { IsStrictlyIncreasing wanted.now }
     requires items { IsStrictlyIncreasing items.now }

@@ -16,7 +16,7 @@ lies-further : (address : ℕ) (addresses : List ℕ) (g : Geometry) (set block 
     → LieIn (address ∷ addresses) g set block
 lies-further address addresses g set block (other, has, is) = (other, has-later address other addresses has, is)
 
--- a listed block is the one in front, or a later one
+-- a listed block is the first one, or a later one
 listed-cases : (o : Option ℕ) (address : ℕ) (addresses : List ℕ) (g : Geometry) (set block : ℕ) (rest : List ℕ) → block_in g set address ≡ o
     → (Contains rest block → LieIn addresses g set block) → Contains (cons_option o rest) block → LieIn (address ∷ addresses) g set block
 listed-cases None address addresses g set block rest is later listed = lies-further address addresses g set block (later listed)
@@ -32,7 +32,7 @@ listed-fetched [] g set block listed = absurd (has-none block listed)
 listed-fetched (node ∷ nodes) g set block listed =
     listed-cases (block_in g set node.at) node.at (addresses_of nodes) g set block (blocks_of nodes g set) refl (listed-fetched nodes g set block) listed
 
--- one fetch more in front
+-- one fetch more before the others
 listed-further : (o : Option ℕ) (rest : List ℕ) (block : ℕ) → Contains rest block → Contains (cons_option o rest) block
 listed-further None rest block listed = listed
 listed-further (Some first) rest block listed = has-later first block rest listed

@@ -1,4 +1,4 @@
--- The fetches of a path, told by blocks and by local numbers.
+-- The fetches of a path, by blocks and by local numbers.
 use Rattle.std.proofs.Common.{◌≡◌, ℕ, zero, suc, ◌<◌, List, [], ◌∷◌, length, map, Option, Some, None, refl, ap, sym, ◌∙◌, arith}
 use Rattle.std.specs.Prelude.{option_map, nat_lt, ◌==◌}
 use Rattle.std.specs.List.{Contains, AllByRecursion}

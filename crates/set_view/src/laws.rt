@@ -10,7 +10,7 @@ ghost use Rattle.set_view.specs.View.{View, IsView};
 use focus_spec::younger_laws;
 use path_model::graph_laws;
 
-/// A path whose last node fetches a block of the set hits exactly where the block's younger set, told in local numbers,
+/// A path whose last node fetches a block of the set hits exactly where the block's younger set, in local numbers,
 /// has fewer blocks than the set has ways.
 pub fn view_laws()
     ensures hits { (view : View) (n block : ℕ) (earlier : List ℕ) → IsView view →

@@ -44,7 +44,7 @@ parse_hex text r parsed some short hex =
     gives text r (omega (arith), digits) (omega (arith, digits_value-lt 16 text digits, power (length text) short)) parsed
     (without_leading_plus_none text (no_plus text some hex))
 
--- the digits behind 0x are what an address is read from
+-- the digits after 0x are what an address is read from
 pub address_is : (text digits : List ℕ) → text ≡ 48 ∷ 120 ∷ digits → is_hexadecimal digits ≡ true → address_of text ≡ Some (digits_value 16 digits)
 address_is text digits is hex = rw is (rw hex refl)
 

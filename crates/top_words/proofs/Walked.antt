@@ -6,11 +6,11 @@ use Rattle.command_spec.specs.Plain.{OptionKind, value_of, is_flag, is_new, is_p
 use Rattle.top_words.specs.Views.{bytes_of}
 use Rattle.top_words.specs.Walk.{after_option}
 
--- the words behind the first, as a slice pattern binds them
+-- the arguments after the first, as a slice pattern binds them
 abbrev pub later_of : List (String Global) → List (String Global)
 later_of words = take (length words - 1) (drop 1 words)
 
--- words are their first and those behind it
+-- arguments are their first and those after it
 first-and-later : (words : List (String Global)) (first : String Global) → 1 ≤ length words → first ≡ get_or words 0 first
     → words ≡ first ∷ later_of words
 first-and-later [] first some at = absurd (omega arith)
@@ -19,27 +19,27 @@ first-and-later (word ∷ words) first some at =
     let same : word ≡ first = sym at in
     rw (count, take-length, same) refl
 
--- what a walk knows of the first option of the words that are left, and of the words behind it
+-- what a walk knows of the first option of the arguments that are left, and of the arguments after it
 pub record IsOption (kinds : List OptionKind) (words : List (String Global)) (first : String Global) (text : List ℕ) (rest : List (String Global)) : Type 0 where
   pub some : 1 ≤ length words
   pub first_is : first ≡ get_or words 0 first
   pub text_is : text ≡ string_bytes first
   pub rest_is : after_option kinds text (later_of words) ≡ Some rest
 
--- the words at an option, as bytes
+-- the arguments at an option, as bytes
 bytes-option : (kinds : List OptionKind) (words : List (String Global)) (first : String Global) (text : List ℕ) (rest : List (String Global))
     → IsOption kinds words first text rest → bytes_of words ≡ text ∷ bytes_of (later_of words)
 bytes-option kinds words first text rest at =
     ap bytes_of (first-and-later words first at.some at.first_is)
     ∙ ap (λ bytes. bytes ∷ bytes_of (later_of words)) (sym at.text_is)
 
--- the same asked of the words behind an option, where a word stands behind its name
+-- the same asked of the arguments after an option, where an argument stands after its name
 behind-next : {X : Type 0} (flag : Bool) (Q : List (String Global) → X) (next : String Global) (words rest : List (String Global))
     → (if flag then Some (next ∷ words) else Some words) ≡ Some rest → (if flag then Q (next ∷ words) else Q words) ≡ Q rest
 behind-next true Q next words rest is = let same : next ∷ words ≡ rest = cc in ap Q same
 behind-next false Q next words rest is = let same : words ≡ rest = cc in ap Q same
 
--- nothing stands behind an option that is the last word
+-- nothing stands after an option that is the last argument
 behind-last : (flag : Bool) (rest : List (String Global)) → (if flag then Some [] else None) ≡ Some rest
     → (flag ≡ true) × ([] ≡ rest)
 behind-last true rest is = (refl, cc)
@@ -50,7 +50,7 @@ and-true : (test : Bool) → (test && true) ≡ test
 and-true true = refl
 and-true false = refl
 
--- words are in plain form if their first is a new option and those behind it are
+-- arguments are in plain form if their first is a new option and those after it are
 plain-option : (kinds : List OptionKind) (first : List ℕ) (later rest : List (String Global)) → after_option kinds first later ≡ Some rest
     → is_plain kinds (first ∷ bytes_of later) ≡ (is_new kinds first (bytes_of rest) && is_plain kinds (bytes_of rest))
 plain-option kinds first [] rest is =
@@ -61,7 +61,7 @@ plain-option kinds first [] rest is =
 plain-option kinds first (next ∷ words) rest is =
     behind-next (is_flag kinds first) (λ left. is_new kinds first (bytes_of left) && is_plain kinds (bytes_of left)) next words rest is
 
--- the same of the words that are left of a walk
+-- the same of the arguments that are left of a walk
 pub is_plain-option : (kinds : List OptionKind) (words : List (String Global)) (first : String Global) (text : List ℕ)
     (rest : List (String Global))
     → IsOption kinds words first text rest
@@ -76,7 +76,7 @@ skipped true named skip found later other = refl
 skipped false true skip found later other = absurd (cc)
 skipped false false skip found later other = refl
 
--- the value behind a name is behind the first option where that isn't it
+-- the value after a name is after the first option where that isn't it
 value-option : (kinds : List OptionKind) (name first : List ℕ) (later rest : List (String Global)) → after_option kinds first later ≡ Some rest
     → (bytes_eq first name && not (is_flag kinds first)) ≡ false → value_of kinds name (first ∷ bytes_of later) ≡ value_of kinds name (bytes_of rest)
 value-option kinds name first [] rest is other = ap (λ left. value_of kinds name (bytes_of left)) (behind-last (is_flag kinds first) rest is).1
@@ -85,7 +85,7 @@ value-option kinds name first (next ∷ words) rest is other =
     (value_of kinds name (bytes_of words)) other
     ∙ behind-next (is_flag kinds first) (λ left. value_of kinds name (bytes_of left)) next words rest is
 
--- the same of the words that are left of a walk
+-- the same of the arguments that are left of a walk
 pub value_of-option : (kinds : List OptionKind) (name : List ℕ) (words : List (String Global)) (first : String Global) (text : List ℕ)
     (rest : List (String Global))
     → IsOption kinds words first text rest → (bytes_eq text name && not (is_flag kinds text)) ≡ false

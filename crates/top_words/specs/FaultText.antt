@@ -8,7 +8,7 @@ use Rattle.report_spec.specs.Text.{address_text}
 use Rattle.top_words.specs.declared.status.Status.{Status}
 use Rattle.top_words.specs.declared.status.Status.TheVariants.{Done, Usage, OutOfMemory, ReadFault, WriteFault, FileTooBig, Elf, Flow, TooManyBlocks}
 
--- a text with a number behind it
+-- a text with a number after it
 abbrev pub counted : List ℕ → ℕ → List ℕ
 counted name n = name ++ decimal n
 
@@ -33,7 +33,7 @@ elf_text (elf.SegmentsOverlap index) = segment_text index (codes " overlaps")
 elf_text elf.NoText = codes "no executable segment"
 elf_text elf.OutOfMemory = codes "out of memory"
 
--- a text with an address behind it
+-- a text with an address after it
 abbrev pub placed : List ℕ → ℕ → List ℕ
 placed name address = name ++ address_text address
 

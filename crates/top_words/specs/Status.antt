@@ -23,7 +23,7 @@ code_of (TooManyBlocks set count) = 8
 code_of (Flow (flow.TooManyFetches limit)) = 8
 code_of (Flow fault) = 7
 
--- want of memory is a status of its own, and never inside another
+-- out of memory is a status of its own, and never inside another
 abbrev pub KeepsMemoryApart : Status → Type 0
 KeepsMemoryApart (Elf elf.OutOfMemory) = ⊥
 KeepsMemoryApart (Flow flow.OutOfMemory) = ⊥

@@ -1,4 +1,4 @@
--- The words of a command line, each as its bytes.
+-- The arguments of a command line, each as its bytes.
 use Rattle.std.specs.Prelude.{ℕ, List, map, String, string_bytes}
 use Rattle.std.specs.declared.alloc.Global.{Global}
 

@@ -1,4 +1,4 @@
-//! What the program's words ask for, and how a run ends.
+//! What the program's arguments ask for, and how a run ends.
 //!
 //! Stands on `command_spec`, whose settings `read_words` gives exactly. `Status` has a code for the process and a text
 //! for standard error, which `text_of` makes without memory.

@@ -1,4 +1,4 @@
-// Numbers and addresses as words of the command line.
+// Numbers and addresses as arguments of the command line.
 ghost use Rattle.std.specs.Prelude.{◌≡◌};
 ghost use Rattle.std.specs.Char.{is_ascii_digit, is_ascii_hexdigit};
 ghost use Rattle.std.specs.List.{list_all};

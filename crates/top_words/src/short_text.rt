@@ -51,7 +51,7 @@ impl ShortText {
         self.len = end;
     }
 
-    /// A name and a decimal behind it.
+    /// A name and a decimal after it.
     pub(crate) fn push_counted(&mut self, name: &[u8], n: u64)
         requires { length self.old + length name.now ≤ 480 }
         ensures text { self.new ≡ self.old ++ counted name.now n }
@@ -62,7 +62,7 @@ impl ShortText {
         self.push(buffer.format(n).as_bytes());
     }
 
-    /// A name and an address behind it.
+    /// A name and an address after it.
     pub(crate) fn push_placed(&mut self, name: &[u8], address: u32)
         requires { length self.old + length name.now ≤ 500 }
         ensures text { self.new ≡ self.old ++ placed name.now address }

@@ -6,12 +6,12 @@ use elf_spec::ElfFault;
 use flow_spec::FlowFault;
 use std::alloc::AllocError;
 
-/// How a run ends. `Elf` and `Flow` never hold want of memory, which is a status of its own.
+/// How a run ends. `Elf` and `Flow` never hold out of memory, which is a status of its own.
 #[derive(Clone, Copy, Debug, PartialEq, Eq)]
 pub enum Status {
     /// The answer was sent whole.
     Done,
-    /// The words give no settings. Nothing was read.
+    /// The arguments give no settings. Nothing was read.
     Usage,
     /// No memory was left.
     OutOfMemory,

@@ -26,7 +26,7 @@ pub record IsLine (text : List ℕ) (read : Line × List ℕ) : Type 0 where
 
 -- ---- ranges
 
--- the fields of a range, one behind another
+-- the fields of a range, one after another
 abbrev range_parts : ℕ → ℕ → List ℕ → List ℕ
 range_parts first last behind = address_text first ++ (codes "-" ++ (address_text last ++ (codes " unreachable\n" ++ behind)))
 
@@ -101,7 +101,7 @@ line_takes text read h = elim (or_some (range_at text) (told_at text) read h) [
   | inr told ↦ told_takes text read told
 ]
 
--- a line by address is no range, for behind its address stands no dash
+-- a line by address is no range, for after its address stands no dash
 no_range_at : (at : ℕ) (verdict : Verdict) (behind : List ℕ) → at < 2 ^ 32 → range_at ((address_text at ++ said_text verdict) ++ behind) ≡ None
 unfolding range_at after
 no_range_at at verdict behind fits =

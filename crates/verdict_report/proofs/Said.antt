@@ -23,7 +23,7 @@ pub record IsSaid (written : Verdict → List ℕ) (text : List ℕ) (read : Ver
   pub fits : FitsVerdict read.0
   pub valid : is_valid_verdict read.0 ≡ true
 
--- the fields of both ways, one behind another
+-- the fields of both ways, one after another
 regroup_unknown : (hit miss : Way) (behind : List ℕ)
     → ended_text (Unknown hit miss) ++ behind
     ≡ codes "unknown hit " ++ (way_text hit ++ (32 ∷ (codes "miss " ++ (way_text miss ++ (10 ∷ behind)))))

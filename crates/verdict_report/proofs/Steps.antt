@@ -31,7 +31,7 @@ or_some None second y h = inr h
 pub same_some : {A : Type 0} (x y : A) → ◌≡◌ {A = Option A} (Some x) (Some y) → x ≡ y
 same_some x y h = cc
 
--- a text in which something stands behind these bytes begins with them
+-- a text in which something stands after these bytes begins with them
 pub after_takes : (front text behind : List ℕ) → after front text ≡ Some behind → text ≡ front ++ behind
 unfolding after
 after_takes front text behind h =
@@ -39,18 +39,18 @@ after_takes front text behind h =
     let front-is : take (length front) text ≡ front = (bytes_eq-Decides (take (length front) text) front).0 g.0 in
     rw (← g.1) (sym (take-append-drop (length front) text) ∙ ap (λ (l : List ℕ). l ++ drop (length front) text) front-is)
 
--- what follows these bytes stands behind them
+-- what follows these bytes stands after them
 pub after_again : (front behind : List ℕ) → after front (front ++ behind) ≡ Some behind
 unfolding after
 after_again front behind =
     let same : bytes_eq front front ≡ true = (bytes_eq-Decides front front).1 refl in
     rw (take_at front behind (length front) refl, drop_at front behind (length front) refl, same) refl
 
--- what is known to stand behind a field of a text
+-- what is known to stand after a field of a text
 pub onward : (front : List ℕ) {text a b : List ℕ} → text ≡ front ++ a → a ≡ b → text ≡ front ++ b
 onward front is same = is ∙ ap (λ (rest : List ℕ). front ++ rest) same
 
--- the same behind the byte at which the field ends
+-- the same after the byte at which the field ends
 pub onward_past : (front : List ℕ) (end : ℕ) {text a b : List ℕ} → text ≡ front ++ (end ∷ a) → a ≡ b → text ≡ front ++ (end ∷ b)
 onward_past front end is same = is ∙ ap (λ (rest : List ℕ). front ++ (end ∷ rest)) same
 

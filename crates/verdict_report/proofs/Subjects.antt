@@ -12,7 +12,7 @@ use Rattle.verdict_report.proofs.Addresses.{address_takes, address_again}
 
 -- ---- the newest return address
 
--- no return address, in front of what follows
+-- no return address, before what follows
 abbrev no_back : List ℕ → Option ℕ × List ℕ
 no_back behind = (None, behind)
 
@@ -40,7 +40,7 @@ back_again (Some p) behind fits = rw (not_none p behind, address_again p behind 
 
 -- ---- place and open calls
 
--- the fields of a configuration's place, one behind another
+-- the fields of a configuration's place, one after another
 abbrev place_parts : ℕ → ℕ → List ℕ → List ℕ
 place_parts node at behind = codes "#" ++ (decimal node ++ (32 ∷ (address_text at ++ behind)))
 
@@ -68,7 +68,7 @@ place_again node at behind small fits =
     ∙ rw (after_again (codes "#") (decimal node ++ (32 ∷ (address_text at ++ behind)))) (
     rw (small_again node (address_text at ++ behind) small) (rw (address_again at behind fits) refl))
 
--- the fields of its open calls, one behind another
+-- the fields of its open calls, one after another
 abbrev calls_parts : ℕ → Option ℕ → List ℕ → List ℕ
 calls_parts depth back behind = codes " depth " ++ (decimal depth ++ (32 ∷ (codes "back " ++ (back_text back ++ behind))))
 

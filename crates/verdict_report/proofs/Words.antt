@@ -15,7 +15,7 @@ is_end end byte = byte == end
 abbrev pub is_free : ℕ → List ℕ → Bool
 is_free end text = list_all (λ byte. not (byte == end)) text
 
--- the word before a place, and the text behind it
+-- the word before a place, and the text after it
 abbrev pub cut_at : ℕ → List ℕ → Option (List ℕ × List ℕ)
 cut_at place text = Some (take place text, drop (suc place) text)
 
@@ -25,7 +25,7 @@ cut_here byte text place is =
     let within : ltb place (length (byte ∷ text)) ≡ true = lt-ltb place (length (byte ∷ text)) (omega arith) in
     rw within (rw is refl)
 
--- the cut behind a first byte that doesn't
+-- the cut after a first byte that doesn't
 cut_on : (byte : ℕ) (text : List ℕ) (place next : ℕ) → next ≡ suc place
     → option_map (λ word. (byte ∷ word.0, word.1)) (cond (ltb place (length text)) (cut_at place text) None)
     ≡ cond (ltb next (length (byte ∷ text))) (cut_at next (byte ∷ text)) None
@@ -61,7 +61,7 @@ no_word end text none = elim (cases_Bool (ltb (position_or_len (is_end end) text
   | inr past ↦ word_is end text ∙ rw past refl
 ]
 
--- the word and what stands behind it, as slices give them
+-- the word and what stands after it, as slices give them
 pub word_found : (end : ℕ) (text : List ℕ) (place : ℕ) → place_of end text ≡ Some place
     → word_at end text ≡ Some (take place text, take (length text - (place + 1)) (drop (place + 1) text))
 word_found end text place found = elim (cases_Bool (ltb (position_or_len (is_end end) text) (length text))) [

@@ -1,4 +1,4 @@
--- Reading from left to right: a field's value and the text behind it, where the text begins with such a field.
+-- Reading from left to right: a field's value and the text after it, where the text begins with such a field.
 -- The clauses of the readers of single fields cite it. What `read_line` gives is said without it, by the texts of lines.
 use Rattle.std.specs.Prelude.{◌≡◌, ℕ, ◌^◌, ◌==◌, ◌&&◌, nat_lt, nat_le, Bool, if◌then◌else◌, List, [], ◌∷◌, length, take, drop, Option, Some, None, option_map, codes, decimal, Result, Ok, Err}
 use Rattle.std.specs.List.{list_all}
@@ -28,7 +28,7 @@ None >>= f = None
 abbrev pub guarded : {A : Type 0} → Bool → A → Option A
 guarded test x = if test then Some x else None
 
--- a value and the text behind it
+-- a value and the text after it
 abbrev pub Read : Type 0 → Type 0
 Read A = Option (A × List ℕ)
 
@@ -37,11 +37,11 @@ abbrev pub Gives : {A B : Type 0} → (A → B) → Option A → Option B → Ty
 Gives seen (Some x) read = read ≡ Some (seen x)
 Gives seen None read = read ≡ None
 
--- what stands behind these bytes
+-- what stands after these bytes
 unfoldable pub after : List ℕ → List ℕ → Option (List ℕ)
 after front text = guarded (bytes_eq (take (length front) text) front) (drop (length front) text)
 
--- the text before the first byte of this value, and the text behind that byte
+-- the text before the first byte of this value, and the text after that byte
 unfoldable pub word_at : ℕ → List ℕ → Read (List ℕ)
 word_at end [] = None
 word_at end (byte ∷ text) = if byte == end then Some ([], text) else option_map (λ word. (byte ∷ word.0, word.1)) (word_at end text)
@@ -50,14 +50,14 @@ word_at end (byte ∷ text) = if byte == end then Some ([], text) else option_ma
 unfoldable pub number_of : List ℕ → Option ℕ
 number_of digits = guarded (nat_lt (digits_value 10 digits) (2 ^ 64) && bytes_eq (decimal (digits_value 10 digits)) digits) (digits_value 10 digits)
 
--- a number and the space behind it
+-- a number and the space after it
 unfoldable pub number_at : List ℕ → Read ℕ
 number_at text = do
   word ← word_at 32 text
   n ← number_of word.0
   Some (n, word.1)
 
--- a number below 2 ^ 32, and the space behind it
+-- a number below 2 ^ 32, and the space after it
 unfoldable pub small_at : List ℕ → Read ℕ
 small_at text = do
   n ← number_at text
@@ -104,7 +104,7 @@ unknown_at text = do
   miss ← way_at 10 behind
   Some (Unknown hit.0 miss.0, miss.1)
 
--- this verdict, and what stands behind it
+-- this verdict, and what stands after it
 abbrev pub told : Verdict → Option (List ℕ) → Read Verdict
 told verdict behind = option_map (λ text. (verdict, text)) behind
 

@@ -1,4 +1,4 @@
-// The fields of a line. Each reader gives a field's value and the text behind it, where a text begins with such a field.
+// The fields of a line. Each reader gives a field's value and the text after it, where a text begins with such a field.
 ghost use Rattle.std.specs.Prelude.{◌≡◌};
 ghost use Rattle.std.specs.List.{list_all};
 ghost use Rattle.report_spec.specs.Valid.{is_letter};
@@ -9,7 +9,7 @@ use hex::FromHex;
 use itoa::Buffer;
 use std::str;
 
-/// What stands behind these bytes.
+/// What stands after these bytes.
 #[tactic(auto, unfolding(crate::specs::Reading::after))]
 pub(crate) fn after<'a>(text: &'a [u8], front: &[u8]) -> Option<&'a [u8]>
     ensures { Gives (λ behind. behind.now) result (after front.now text.now) }
@@ -17,7 +17,7 @@ pub(crate) fn after<'a>(text: &'a [u8], front: &[u8]) -> Option<&'a [u8]>
     text.strip_prefix(front)
 }
 
-/// The text before the first byte of this value, and the text behind that byte.
+/// The text before the first byte of this value, and the text after that byte.
 pub(crate) fn word_at(text: &[u8], end: u8) -> Option<(&[u8], &[u8])>
     ensures { Gives (λ word. (word.0.now, word.1.now)) result (word_at end text.now) }
 {
@@ -38,7 +38,7 @@ fn number_of(digits: &[u8]) -> Option<u64>
     }
 }
 
-/// A number and the space behind it.
+/// A number and the space after it.
 #[tactic(auto, unfolding(crate::specs::Reading::number_at))]
 pub(crate) fn number_at(text: &[u8]) -> Option<(u64, &[u8])>
     ensures { Gives (λ read. (read.0, read.1.now)) result (number_at text.now) }
@@ -47,7 +47,7 @@ pub(crate) fn number_at(text: &[u8]) -> Option<(u64, &[u8])>
     Some((number_of(digits)?, behind))
 }
 
-/// A number below 2 ^ 32, and the space behind it.
+/// A number below 2 ^ 32, and the space after it.
 #[tactic(auto, unfolding(crate::specs::Reading::small_at))]
 pub(crate) fn small_at(text: &[u8]) -> Option<(u32, &[u8])>
     ensures { Gives (λ read. (read.0, read.1.now)) result (small_at text.now) }

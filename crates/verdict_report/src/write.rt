@@ -8,7 +8,7 @@ use hex::encode_to_slice;
 use itoa::Buffer;
 use std::alloc::AllocError;
 
-/// Appends the text of a valid line, its line end included. After want of memory the text is as before.
+/// Appends the text of a valid line, its line end included. Out of memory, the text is as before.
 pub fn write_line(line: &Line, into: &mut Vec<u8>) -> Result<(), AllocError>
     requires { IsTrue (is_valid line.now) }
     ensures ok { OnOk result (into.new.items ≡ into.old.items ++ line_text line.now) }

@@ -6,7 +6,7 @@ use crate::GraphLine;
 use crate::write::{push_context, push_number};
 use std::alloc::AllocError;
 
-/// Appends the text of a line of the graph, its line end included. After want of memory the text is as before.
+/// Appends the text of a line of the graph, its line end included. Out of memory, the text is as before.
 pub fn write_graph_line(line: &GraphLine, into: &mut Vec<u8>) -> Result<(), AllocError>
     ensures ok { OnOk result (into.new.items ≡ into.old.items ++ graph_line_text line.now) }
     ensures err { OnErr result (into.new.items ≡ into.old.items) }

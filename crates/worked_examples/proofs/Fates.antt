@@ -49,7 +49,7 @@ address_is c (inl is) there = let e = ap (λ (c : Configuration). c.at) is in om
 address_is c (inr (inl is)) there = let e = ap (λ (c : Configuration). c.at) is in omega arith
 address_is c (inr (inr is)) there = let e = ap (λ (c : Configuration). c.at) is in omega arith
 
--- no path reaches the word behind
+-- no path reaches the word after
 pub unreached : IsUnreached (program_of loop_and_rest) 0x10000 0x1000c
 unreached addresses (path, ends, is) =
     let P : List Configuration → Type 0 = λ path. IsPath step (start_of 0x10000) path in

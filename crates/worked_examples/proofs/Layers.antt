@@ -136,7 +136,7 @@ none_later : (c : Configuration) → IsInLayer step (at 0x10000) 3 c → ⊥
 none_later c in_layer =
     let is = reached_fourth c in_layer.reached in in_layer.no_sooner 1 (lit< tt) (follows_start step c 0x10004 is to_second)
 
--- behind the third layer is none
+-- after the third layer is none
 last_layer : IsLayer step (at 0x10000) configuration_cmp 3 []
 last_layer = record {
   sorted = sorted_none;

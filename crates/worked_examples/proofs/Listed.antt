@@ -1,4 +1,4 @@
--- The four addresses of the loop and the word behind are its text.
+-- The four addresses of the loop and the word after are its text.
 use Rattle.std.proofs.Common.{◌≡◌, ℕ, zero, suc, ◌+◌, ◌-◌, ◌*◌, ◌/◌, ◌%◌, ◌≤◌, List, [], ◌∷◌, refl, subst, arith, lit<, Some, None}
 use Rattle.std.specs.Prelude.{Bool, true, false, ◌↔◌, ◌==◌, Contains, is_some, option_map, if◌then◌else◌}
 use Rattle.std.proofs.lemmas.Bool.Decides.{nat_tests}

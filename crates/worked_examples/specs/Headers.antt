@@ -18,6 +18,6 @@ placing = 1 ∷ 0 ∷ 0 ∷ 0 ∷ 0x54 ∷ 0 ∷ 0 ∷ 0 ∷ 0 ∷ 0 ∷ 1 ∷ 0
 abbrev pub flags_and_align : List ℕ
 flags_and_align = 5 ∷ 0 ∷ 0 ∷ 0 ∷ 4 ∷ 0 ∷ 0 ∷ 0 ∷ []
 
--- what stands before so many bytes of words; p_filesz and p_memsz are both that number
+-- what stands before `size` bytes of words; p_filesz and p_memsz are both that number
 abbrev pub head_for : ℕ → List ℕ
 head_for size = file_header ++ (placing ++ (to_le_bytes w32 size ++ (to_le_bytes w32 size ++ flags_and_align)))

@@ -31,11 +31,11 @@ at address = configuration [] address
 abbrev pub in_call : Frame → ℕ → Configuration
 in_call opened address = configuration (opened ∷ []) address
 
--- a word and a branch back to it by 4 bytes, with a stop behind
+-- a word and a branch back to it by 4 bytes, with a stop after
 abbrev pub loop : List ℕ
 loop = 0x00000013 ∷ 0xfe051ee3 ∷ 0x00100073 ∷ []  -- nop; bnez a0, -4; ebreak
 
--- the same with a word behind that no path reaches
+-- the same with a word after that no path reaches
 abbrev pub loop_and_rest : List ℕ
 loop_and_rest = 0x00000013 ∷ 0xfe051ee3 ∷ 0x00100073 ∷ 0x00000013 ∷ []  -- nop; bnez a0, -4; ebreak; nop
 

@@ -1,4 +1,4 @@
--- The layers and the reports of the loop with a word behind, and programs that are refused.
+-- The layers and the reports of the loop with a word after, and programs that are refused.
 use Rattle.std.specs.Prelude.{ℕ, List, [], ◌∷◌, ◌++◌, None, codes}
 use Rattle.flow_spec.specs.declared.fault.FlowFault.{FlowFault}
 use Rattle.flow_spec.specs.Acceptance.{IsAccepted, IsRefused}

@@ -5,7 +5,7 @@ use Rattle.report_spec.specs.declared.line.Line.{Line}
 use Rattle.report_spec.specs.declared.line.Line.TheVariants.{At, Context, Unreachable}
 use Rattle.report_spec.specs.declared.line.Verdict.TheVariants.{AlwaysHit, AlwaysMiss, Unknown}
 
--- a path of so many members, with these choices
+-- a path of `steps` members, with these choices
 abbrev pub way : ℕ → List ℕ → Way
 way steps choices = record { steps = steps; choices = choices }
 

@@ -64,7 +64,7 @@ pub fn worked_texts()
 {}
 
 /// Texts are alike where their unknown lines have other ways, and not where a verdict differs. That holds of a verdict
-/// behind an unknown line and between two: what stands behind the first one can't be taken for its choices.
+/// after an unknown line and between two: what stands after the first one can't be taken for its choices.
 pub fn worked_alikeness()
     ensures other_ways { AreAlikeTexts hit_between hit_by_other_ways }
     ensures behind_unknown { AreAlikeTexts hit_after miss_after → ⊥ }

@@ -22,7 +22,7 @@ fn changed(alloc: Global, changes: &[(usize, &[u8])]) -> Result<Vec<u8>, AllocEr
     Ok(file)
 }
 
-/// The file with its program header twice, and its words behind that.
+/// The file with its program header twice, and its words after that.
 fn doubled(alloc: Global) -> Result<Vec<u8>, AllocError> {
     let file = changed(alloc, &[(44, &[2]), (56, &[116])])?;
     let mut whole = Vec::new(alloc);

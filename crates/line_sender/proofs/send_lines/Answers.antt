@@ -9,7 +9,7 @@ use Rattle.line_sender.proofs.Pending.{Pending-line, SendsPrefix-line, SendsPref
 use Rattle.line_sender.proofs.Text.{text_of-take_more, SendsPrefix-take}
 use Rattle.line_sender.proofs.send_lines.Goals as goal
 
--- the error came at the line behind those that are pending
+-- the error came at the line after those that are pending
 pub returns-in_err-send_line-clause-part : goal.returns-in_err-send_line-clause-part
 returns-in_err-send_line-clause-part g c =
     let i = c.loop-line.line-index in

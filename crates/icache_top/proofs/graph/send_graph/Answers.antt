@@ -12,7 +12,7 @@ use Rattle.icache_top.specs.GraphLines.{graph_lines_of, graph_text_of}
 use Rattle.icache_top.proofs.GraphText.{text-take_more, SendsPrefix-take, take_all}
 use Rattle.icache_top.proofs.graph.send_graph.Goals as goal
 
--- the error came at the line behind those that are pending
+-- the error came at the line after those that are pending
 pub returns-in_err-send_graph_line-clause-part : goal.returns-in_err-send_graph_line-clause-part
 returns-in_err-send_graph_line-clause-part g c =
     let e = c.args.expanded.now in

@@ -4,7 +4,7 @@ use Rattle.command_spec.specs.Plain.{has_option}
 use Rattle.top_words.specs.Views.{bytes_of}
 use Rattle.top_words.proofs.options.has_option.Given as goal
 
--- the words passed over don't have the option
+-- the arguments passed over don't have the option
 abbrev pub invariant-loop-left : goal.invariant-loop-left
 invariant-loop-left l = has_option (options_of l.command) l.name (bytes_of l.arguments) ≡ has_option (options_of l.command) l.name (bytes_of l.left)
 

@@ -4,7 +4,7 @@ use Rattle.command_spec.specs.Settings.{options_of}
 use Rattle.top_words.specs.Views.{bytes_of}
 use Rattle.top_words.proofs.options.is_plain.Given as goal
 
--- the words passed over are in plain form if those left are
+-- the arguments passed over are in plain form if those left are
 abbrev pub invariant-loop-left : goal.invariant-loop-left
 invariant-loop-left l = is_plain (options_of l.command) (bytes_of l.arguments) ≡ is_plain (options_of l.command) (bytes_of l.left)
 
