@@ -22,13 +22,15 @@ abbrev pub EndsWith : {P E : Type 0} → (P → Result ℕ E → P → Type 0) �
 EndsWith {P} step answer old new = (last : P) × MovesSome step old last × step last answer new
 
 -- reads that each gave some bytes, and then one that failed: no fault came before it, and no byte with it
-abbrev pub EndsAtFault : {P : Type 0} → (P → Result ℕ Failed → P → Type 0) → (P → Option (List ℕ)) → (P → ℕ) → P → P → Type 0
+abbrev pub EndsAtFault : {P : Type 0} → (P → Result ℕ Failed → P → Type 0) → (P → Option (List ℕ)) → (P → ℕ) → P → P
+    → Type 0
 EndsAtFault {P} reads left faults old new =
     (last : P) × MovesSome reads old last × ((failed : Failed) × reads last (Err failed) new)
     × (faults last ≡ faults old) × Keeps (left last) (left new)
 
 -- how reading to the end went: its last read gave nothing, or failed, or brought more than may be kept
-abbrev pub ReadsBy : {P T : Type 0} → (P → Result ℕ Failed → P → Type 0) → (P → Option (List ℕ)) → (P → ℕ) → Result T ReadStop → P → P → Type 0
+abbrev pub ReadsBy : {P T : Type 0} → (P → Result ℕ Failed → P → Type 0) → (P → Option (List ℕ)) → (P → ℕ)
+    → Result T ReadStop → P → P → Type 0
 ReadsBy reads left faults (Ok value) old new = EndsWith reads (Ok 0) old new
 ReadsBy reads left faults (Err stops.Failed) old new = EndsAtFault reads left faults old new
 ReadsBy reads left faults (Err stops.TooBig) old new = MovesSome reads old new

@@ -8,7 +8,8 @@ length-blocks slots len ways sound =
     length-take-le len slots (omega (arith, sound.room, sound.within, sound.few_ways))
 
 -- the blocks give the slots back
-pub slots_from_blocks : (slots : List ℕ) (len ways : ℕ) → IsSound slots len ways → take len slots ++ replicate (16 - length (take len slots)) 0 ≡ slots
+pub slots_from_blocks : (slots : List ℕ) (len ways : ℕ) → IsSound slots len ways
+    → take len slots ++ replicate (16 - length (take len slots)) 0 ≡ slots
 slots_from_blocks slots len ways sound =
     ap (λ n. take len slots ++ replicate (16 - n) 0) (length-blocks slots len ways sound)
     ∙ ap (λ rest. take len slots ++ rest) (sym sound.unused)

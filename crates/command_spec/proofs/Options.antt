@@ -195,7 +195,8 @@ module _ (kinds : List OptionKind) where
   value_flag name first (next ∷ words) flag = cond-true (is_flag kinds first) _ _ flag
 
   value_first : (name first : List ℕ) (value : Option (List ℕ)) (words : List (List ℕ)) → IsTaken first value
-      → value_of kinds name (first ∷ (option_to_list value ++ words)) ≡ pick first value name (value_of kinds name words)
+      → value_of kinds name (first ∷ (option_to_list value ++ words))
+      ≡ pick first value name (value_of kinds name words)
   value_first name first None words taken = value_flag name first words (ap is_without taken)
   value_first name first (Some value) words taken = cond-false (is_flag kinds first) _ _ (ap is_without taken)
 

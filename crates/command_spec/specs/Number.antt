@@ -20,4 +20,5 @@ is_hexadecimal digits = nat_le 1 (length digits) && (nat_le (length digits) 8 &&
 -- the address that a text spells: 0x, and then digits
 abbrev pub address_of : List ℕ → Option ℕ
 address_of text =
-    if bytes_eq (take 2 text) (codes "0x") && is_hexadecimal (drop 2 text) then Some (digits_value 16 (drop 2 text)) else None
+    if bytes_eq (take 2 text) (codes "0x") && is_hexadecimal (drop 2 text) then Some (digits_value 16 (drop 2 text))
+    else None

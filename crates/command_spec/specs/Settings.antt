@@ -59,7 +59,11 @@ entry_in command arguments = address_if (value_of (options_of command) (codes "-
 -- a report of a cache of this geometry, with contexts where the arguments have the flag
 abbrev pub report_as : List (List ℕ) → Geometry → Ask
 report_as arguments geometry =
-    Report (record { geometry = geometry; contexts = has_option (options_of commands.Classify) (codes "--contexts") arguments })
+    Report (record {
+      geometry = geometry;
+      contexts = has_option (options_of commands.Classify) (codes "--contexts")
+          arguments;
+    })
 
 -- the report that the arguments of `classify` ask for
 abbrev pub report_in : List (List ℕ) → Option Ask
@@ -78,7 +82,8 @@ settings_with entry ask = record { entry = entry; ask = ask }
 abbrev pub command_settings : Command → List (List ℕ) → Option Settings
 command_settings command arguments =
     if is_plain (options_of command) arguments
-    then option_and_then (λ ask. option_map (λ entry. settings_with entry ask) (entry_in command arguments)) (ask_in command arguments)
+    then option_and_then (λ ask. option_map (λ entry. settings_with entry ask) (entry_in command arguments))
+    (ask_in command arguments)
     else None
 
 -- the command of a name

@@ -12,7 +12,8 @@ behind_identity file = machine_tests file ++ (table_tests file ++ segment_tests 
 abbrev behind_machine : List ℕ → List (Option ElfFault)
 behind_machine file = table_tests file ++ segment_tests file
 
-pub fault_of_identity : (file : List ℕ) (fault : ElfFault) → first_fault (identity_tests file) ≡ Some fault → image_of file ≡ Err fault
+pub fault_of_identity : (file : List ℕ) (fault : ElfFault) → first_fault (identity_tests file) ≡ Some fault
+    → image_of file ≡ Err fault
 unfolding image_of
 fault_of_identity file fault here = ap (answer_of file) (failed (identity_tests file) (behind_identity file) fault here)
 
@@ -24,7 +25,8 @@ fault_of_machine file fault identity here =
     (passed (identity_tests file) (behind_identity file) identity
     ∙ failed (machine_tests file) (behind_machine file) fault here)
 
-pub fault_of_table : (file : List ℕ) (fault : ElfFault) → first_fault (identity_tests file) ≡ None → first_fault (machine_tests file) ≡ None
+pub fault_of_table : (file : List ℕ) (fault : ElfFault) → first_fault (identity_tests file) ≡ None
+    → first_fault (machine_tests file) ≡ None
     → first_fault (table_tests file) ≡ Some fault → image_of file ≡ Err fault
 unfolding image_of
 fault_of_table file fault identity machine here =
@@ -42,22 +44,27 @@ last_group file identity machine table =
     ∙ (passed (machine_tests file) (behind_machine file) machine
     ∙ passed (table_tests file) (segment_tests file) table))
 
-pub fault_of_segments : (file : List ℕ) (fault : ElfFault) → first_fault (identity_tests file) ≡ None → first_fault (machine_tests file) ≡ None
+pub fault_of_segments : (file : List ℕ) (fault : ElfFault) → first_fault (identity_tests file) ≡ None
+    → first_fault (machine_tests file) ≡ None
     → first_fault (table_tests file) ≡ None → first_fault (segment_tests file) ≡ Some fault → image_of file ≡ Err fault
 fault_of_segments file fault identity machine table here =
     last_group file identity machine table ∙ ap (answer_of file) here
 
 -- a file that passes them all is kept
 pub kept : (file : List ℕ) → first_fault (identity_tests file) ≡ None → first_fault (machine_tests file) ≡ None
-    → first_fault (table_tests file) ≡ None → first_fault (segment_tests file) ≡ None → image_of file ≡ Ok (kept_of file)
+    → first_fault (table_tests file) ≡ None → first_fault (segment_tests file) ≡ None
+    → image_of file ≡ Ok (kept_of file)
 kept file identity machine table segments = last_group file identity machine table ∙ ap (answer_of file) segments
 
 -- where the answer is a fault, a result with that fault is right
-pub only_fault : {T : Type 0} (file : List ℕ) (fault : ElfFault) (result : Result T ElfFault) → result ≡ Err fault → image_of file ≡ Err fault
+pub only_fault : {T : Type 0} (file : List ℕ) (fault : ElfFault) (result : Result T ElfFault) → result ≡ Err fault
+    → image_of file ≡ Err fault
     → IfErr (image_of file) (λ other. result ≡ Err other)
 only_fault file fault result same is =
-    let P : Result Image ElfFault → Type 0 = λ answer. IfErr answer (λ other. result ≡ Err other) in subst P (sym is) same
+    let P : Result Image ElfFault → Type 0 =
+    λ answer. IfErr answer (λ other. result ≡ Err other) in subst P (sym is) same
 
 -- and where it is an image, there is none
-pub no_fault : (file : List ℕ) (P : ElfFault → Type 0) (image : Image) → image_of file ≡ Ok image → IfErr (image_of file) P
+pub no_fault : (file : List ℕ) (P : ElfFault → Type 0) (image : Image) → image_of file ≡ Ok image
+    → IfErr (image_of file) P
 no_fault file P image is = let Q : Result Image ElfFault → Type 0 = λ answer. IfErr answer P in subst Q (sym is) tt

@@ -21,7 +21,8 @@ use Rattle.elf_image.proofs.Kept.{segments_from}
 use Rattle.elf_image.proofs.Rising.{IsApart, AreApart, IsFilled, in_order_all, in_order_pairs, length-in_order}
 
 -- where nothing is found, the first element fails and nothing is found later
-fails_on : {X : Type 0} (b : Bool) (x : X) (later : Option X) → cond b (Some x) later ≡ None → (b ≡ false) × (later ≡ None)
+fails_on : {X : Type 0} (b : Bool) (x : X) (later : Option X) → cond b (Some x) later ≡ None
+    → (b ≡ false) × (later ≡ None)
 fails_on true x later none = absurd (none-some x (sym none))
 fails_on false x later none = (refl, none)
 
@@ -64,7 +65,8 @@ kept_all P file from count each =
 
 -- headers that are apart two by two
 apart_from : (file : List ℕ) (count from : ℕ)
-    → ((i j : ℕ) → from ≤ i → i < j → j < from + count → is_executable (header file i) ≡ true → is_executable (header file j) ≡ true → IsApart (segment_of (header file i)) (segment_of (header file j)))
+    → ((i j : ℕ) → from ≤ i → i < j → j < from + count → is_executable (header file i) ≡ true → is_executable
+    (header file j) ≡ true → IsApart (segment_of (header file i)) (segment_of (header file j)))
     → AreApart (segments_from file from count)
 apart_from file zero from apart = tt
 apart_from file (suc count) from apart =
@@ -103,8 +105,10 @@ all_apart file none i j lt below is js =
     false≢true (sym unmet ∙ list_any_at test (range_with_len 0 j) i 0 within here)))
 
 -- each executable header has bytes, lies in the file, and ends below the end of the addresses
-each_fits : (file : List ℕ) → first_executable file (bytes_outside file) ≡ None → first_executable file (addresses_wrap file) ≡ None
-    → (i : ℕ) → i < e_phnum file → is_executable (header file i) ≡ true → SegmentFits (length file) (segment_of (header file i))
+each_fits : (file : List ℕ) → first_executable file (bytes_outside file) ≡ None
+    → first_executable file (addresses_wrap file) ≡ None
+    → (i : ℕ) → i < e_phnum file → is_executable (header file i) ≡ true
+    → SegmentFits (length file) (segment_of (header file i))
 each_fits file inside below i within is = record {
   some =
       let filled : not ((header file i).p_filesz == 0) ≡ true = (and_parts _ _ (and_parts _ _ is).1).1 in
@@ -119,7 +123,8 @@ filter_few : {X : Type 0} (p : X → Bool) (xs : List X) → length (filter p xs
 filter_few p [] = omega arith
 filter_few p (x ∷ xs) =
     let rest : length (filter p xs) ≤ length xs = filter_few p xs in
-    cond_both (p x) (x ∷ filter p xs) (filter p xs) (λ kept. length kept ≤ length (x ∷ xs)) (λ e. omega arith) (λ e. omega arith)
+    cond_both (p x) (x ∷ filter p xs) (filter p xs) (λ kept. length kept ≤ length (x ∷ xs)) (λ e. omega arith)
+    (λ e. omega arith)
 
 -- a test that passes
 passes : (holds : Bool) (fault : ElfFault) → fails_where holds fault ≡ None → holds ≡ false
@@ -127,10 +132,12 @@ passes true fault none = absurd (none-some fault (sym none))
 passes false fault none = refl
 
 -- what is kept of a file that passes the tests of its table and of its segments
-pub kept_fits : (file : List ℕ) → length file ≤ 16777216 → first_fault (table_tests file) ≡ None → first_fault (segment_tests file) ≡ None
+pub kept_fits : (file : List ℕ) → length file ≤ 16777216 → first_fault (table_tests file) ≡ None
+    → first_fault (segment_tests file) ≡ None
     → Fits file (in_order (map segment_of (executable_headers file)))
 kept_fits file small table segments =
-    let outside = parts (segment_outside file) (segment_wraps file ∷ segments_overlap file ∷ no_text file ∷ []) segments in
+    let outside = parts (segment_outside file) (segment_wraps file ∷ segments_overlap file ∷ no_text file ∷ [])
+    segments in
     let wraps = parts (segment_wraps file) (segments_overlap file ∷ no_text file ∷ []) outside.1 in
     let overlap = parts (segments_overlap file) (no_text file ∷ []) wraps.1 in
     let sizes = parts (other_header_size file) (too_many_headers file ∷ headers_cut file ∷ []) table in
@@ -140,16 +147,19 @@ kept_fits file small table segments =
     let each : All (SegmentFits (length file)) kept =
     All-map (SegmentFits (length file)) segment_of (executable_headers file)
     (kept_all (λ h. SegmentFits (length file) (segment_of h)) file 0 count
-    (λ i low high is. each_fits file (map-None SegmentOutside _ outside.0) (map-None SegmentWraps _ wraps.0) i (omega arith) is)) in
+    (λ i low high is. each_fits file (map-None SegmentOutside _ outside.0) (map-None SegmentWraps _ wraps.0) i
+    (omega arith) is)) in
     let apart : AreApart kept =
-    apart_from file count 0 (λ i j low lt high is js. all_apart file (map-None SegmentsOverlap _ overlap.0) i j lt (omega arith) is js) in
+    apart_from file count 0 (λ i j low lt high is js. all_apart file (map-None SegmentsOverlap _ overlap.0) i j lt
+    (omega arith) is js) in
     let few : e_phnum file ≤ 64 = ltb-false 64 (e_phnum file) (passes _ _ many.0) in
     let headers = map (header file) (range_with_len 0 count) in
     let filtered : length (executable_headers file) ≤ length headers = filter_few is_executable headers in
     let all : length headers ≡ count = length-map-range_with_len (header file) 0 count in
     record {
       each = in_order_all (SegmentFits (length file)) kept each;
-      rising = in_order_pairs kept (All-weaker (SegmentFits (length file)) IsFilled (λ s fits. fits.some) kept each) apart;
+      rising = in_order_pairs kept (All-weaker (SegmentFits (length file)) IsFilled (λ s fits. fits.some) kept each)
+          apart;
       few = rw (length-in_order kept, length-map (executable_headers file) segment_of) (omega arith);
       small = small;
     }

@@ -6,13 +6,15 @@ use Rattle.elf_spec.specs.declared.fault.ElfFault.{ElfFault}
 use Rattle.elf_spec.specs.Image.{first_fault}
 
 -- a group that passes leaves the answer to the later ones
-pub passed : (tests later : List (Option ElfFault)) → first_fault tests ≡ None → first_fault (tests ++ later) ≡ first_fault later
+pub passed : (tests later : List (Option ElfFault)) → first_fault tests ≡ None
+    → first_fault (tests ++ later) ≡ first_fault later
 passed [] later none = refl
 passed (None ∷ tests) later none = passed tests later none
 passed (Some fault ∷ tests) later none = absurd (none-some fault (sym none))
 
 -- the answer of a group that fails is the whole answer
-pub failed : (tests later : List (Option ElfFault)) (fault : ElfFault) → first_fault tests ≡ Some fault → first_fault (tests ++ later) ≡ Some fault
+pub failed : (tests later : List (Option ElfFault)) (fault : ElfFault) → first_fault tests ≡ Some fault
+    → first_fault (tests ++ later) ≡ Some fault
 failed [] later fault some = absurd (none-some fault some)
 failed (None ∷ tests) later fault some = failed tests later fault some
 failed (Some first ∷ tests) later fault some = some

@@ -41,20 +41,25 @@ rising_starts xs rising = λ i j d le within. elim (cases_eq i j) [
 
 pub rising_ends : (xs : List Segment) → AllPairs EndsBefore xs → IsNonDecreasingBy (λ s. s.at + s.size) xs
 rising_ends xs rising = λ i j d le within. elim (cases_eq i j) [
-  | inl same ↦ (let e : (get_or xs i d).at + (get_or xs i d).size ≡ (get_or xs j d).at + (get_or xs j d).size = ap (λ n. (get_or xs n d).at + (get_or xs n d).size) same in omega arith)
+  | inl same ↦ (let e : (get_or xs i d).at + (get_or xs i d).size ≡ (get_or xs j d).at + (get_or xs j d).size = ap
+      (λ n. (get_or xs n d).at + (get_or xs n d).size) same in omega arith)
   | inr other ↦ (let h : EndsBefore (get_or xs i d) (get_or xs j d) = rising i j d (omega arith) within in omega arith)
 ]
 
 -- the last segment that begins at or below an address has the word there
-pub found_last : (xs : List Segment) (p last : ℕ) (d : Segment) → AllPairs EndsBefore xs → last < length xs → (get_or xs last d).at ≤ p
+pub found_last : (xs : List Segment) (p last : ℕ) (d : Segment) → AllPairs EndsBefore xs → last < length xs
+    → (get_or xs last d).at ≤ p
     → has_word p (get_or xs last d) ≡ true → find (has_word p) xs ≡ Some (get_or xs last d)
 found_last xs p last d rising within begun here =
     find_here (has_word p) xs last d within here
-    (λ k below. let h : EndsBefore (get_or xs k d) (get_or xs last d) = rising k last d below within in word_behind (get_or xs k d) p (omega arith))
+    (λ k below. let h : EndsBefore (get_or xs k d) (get_or xs last d) = rising k last d below within in word_behind
+    (get_or xs k d) p (omega arith))
 
 -- or it doesn't, and no segment has it
-pub found_nowhere : (xs : List Segment) (p last : ℕ) → AllPairs EndsBefore xs → last < length xs → ((d : Segment) → (get_or xs last d).at ≤ p)
-    → ((d : Segment) → has_word p (get_or xs last d) ≡ false) → ((k : ℕ) (d : Segment) → last < k → k < length xs → p < (get_or xs k d).at)
+pub found_nowhere : (xs : List Segment) (p last : ℕ) → AllPairs EndsBefore xs → last < length xs
+    → ((d : Segment) → (get_or xs last d).at ≤ p)
+    → ((d : Segment) → has_word p (get_or xs last d) ≡ false)
+    → ((k : ℕ) (d : Segment) → last < k → k < length xs → p < (get_or xs k d).at)
     → find (has_word p) xs ≡ None
 found_nowhere xs p last rising within begun here above =
     find_none (has_word p) xs

@@ -19,12 +19,15 @@ map_kept false h rest = refl
 
 -- one header more before the others
 segments_next : (file : List ℕ) (index count : ℕ)
-    → segments_from file index (suc count) ≡ cond (is_executable (header file index)) (segment_of (header file index) ∷ segments_from file (index + 1) count) (segments_from file (index + 1) count)
+    → segments_from file index (suc count) ≡ cond (is_executable (header file index))
+    (segment_of (header file index) ∷ segments_from file (index + 1) count) (segments_from file (index + 1) count)
 segments_next file index count = map_kept (is_executable (header file index)) (header file index) _
 
 -- a step down, from an index to the one before it
 segments_back : (file : List ℕ) (index count : ℕ) → 0 < index → index ≤ count
-    → segments_from file (index - 1) (count - (index - 1)) ≡ cond (is_executable (header file (index - 1))) (segment_of (header file (index - 1)) ∷ segments_from file index (count - index)) (segments_from file index (count - index))
+    → segments_from file (index - 1) (count - (index - 1))
+    ≡ cond (is_executable (header file (index - 1))) (segment_of (header file (index - 1)) ∷ segments_from file index
+    (count - index)) (segments_from file index (count - index))
 segments_back file index count some within =
     let here = header file (index - 1) in
     let long : count - (index - 1) ≡ suc (count - index) = omega arith in
@@ -34,11 +37,17 @@ segments_back file index count some within =
     ∙ ap (λ n. cond (is_executable here) (segment_of here ∷ rest n) (rest n)) back
 
 -- a step down to an executable header puts its segment in its place
-pub segments_more : (file : List ℕ) (index count : ℕ) → 0 < index → index ≤ count → is_executable (header file (index - 1)) ≡ true
-    → in_order (segments_from file (index - 1) (count - (index - 1))) ≡ placed (segment_of (header file (index - 1))) (in_order (segments_from file index (count - index)))
-segments_more file index count some within is = ap in_order (segments_back file index count some within ∙ cond-true _ _ _ is)
+pub segments_more : (file : List ℕ) (index count : ℕ) → 0 < index → index ≤ count
+    → is_executable (header file (index - 1)) ≡ true
+    → in_order (segments_from file (index - 1) (count - (index - 1)))
+    ≡ placed (segment_of (header file (index - 1))) (in_order (segments_from file index (count - index)))
+segments_more file index count some within is =
+    ap in_order (segments_back file index count some within ∙ cond-true _ _ _ is)
 
 -- a step down to any other header changes nothing
-pub segments_same : (file : List ℕ) (index count : ℕ) → 0 < index → index ≤ count → is_executable (header file (index - 1)) ≡ false
-    → in_order (segments_from file (index - 1) (count - (index - 1))) ≡ in_order (segments_from file index (count - index))
-segments_same file index count some within is = ap in_order (segments_back file index count some within ∙ cond-false _ _ _ is)
+pub segments_same : (file : List ℕ) (index count : ℕ) → 0 < index → index ≤ count
+    → is_executable (header file (index - 1)) ≡ false
+    → in_order (segments_from file (index - 1) (count - (index - 1)))
+    ≡ in_order (segments_from file index (count - index))
+segments_same file index count some within is =
+    ap in_order (segments_back file index count some within ∙ cond-false _ _ _ is)

@@ -14,7 +14,8 @@ use Rattle.elf_image.specs.Fits.{EndsBefore, SegmentFits}
 use Rattle.elf_image.proofs.Found.{word_behind}
 
 -- a test that agrees has the same least number
-next_same : (f g : ℕ → Bool) (from : ℕ) (next : Option ℕ) → ((n : ℕ) → f n ≡ g n) → IsNext f from next → IsNext g from next
+next_same : (f g : ℕ → Bool) (from : ℕ) (next : Option ℕ) → ((n : ℕ) → f n ≡ g n) → IsNext f from next
+    → IsNext g from next
 next_same f g from None same none = λ n above. sym (same n) ∙ none n above
 next_same f g from (Some found) same is = (sym (same found) ∙ is.0, is.1, λ n above h. is.2 n above (same n ∙ h))
 
@@ -37,7 +38,8 @@ found_any f (s ∷ segments) p = found_first f (has_word p s) _ s _ (found_any f
 
 -- both, by whether the address is a multiple of 4
 text_by : (t : Bool) (file : List ℕ) (segments : List Segment) (p : ℕ)
-    → list_any (λ s. t && has_word p s) segments ≡ is_some (if t then option_map (λ s. u32_at file (s.offset + (p - s.at))) (find (has_word p) segments) else None)
+    → list_any (λ s. t && has_word p s) segments ≡ is_some
+    (if t then option_map (λ s. u32_at file (s.offset + (p - s.at))) (find (has_word p) segments) else None)
 text_by true file segments p = sym (found_any _ segments p)
 text_by false file segments p = found_none segments p
 
@@ -47,7 +49,8 @@ unfolding word_at
 text_is image p = text_by (p % 4 == 0) image.file image.segments p
 
 -- the next word among the segments is the next of the text
-pub next_text : (image : Image) (from : ℕ) (next : Option ℕ) → IsNextAmong image.segments from next → IsNextText image from next
+pub next_text : (image : Image) (from : ℕ) (next : Option ℕ) → IsNextAmong image.segments from next
+    → IsNextText image from next
 next_text image from next is = next_same (some_has_word_at image.segments) (is_text image) from next (text_is image) is
 
 -- a word of a segment begins in it, and ends in it
@@ -58,7 +61,8 @@ word_inside : (s : Segment) (p : ℕ) → has_word_at s p ≡ true → p + 4 ≤
 word_inside s p has = leb-true _ _ (and_parts _ _ (and_parts _ _ has).1).1
 
 -- the text lies below the end of the addresses
-pub text_below : (image : Image) (p : ℕ) → All (SegmentFits (length image.file)) image.segments → IsText image p → p + 4 ≤ 2 ^ 32
+pub text_below : (image : Image) (p : ℕ) → All (SegmentFits (length image.file)) image.segments → IsText image p
+    → p + 4 ≤ 2 ^ 32
 text_below image p each has =
     let some = Any-from_list_any (λ s. has_word_at s p) image.segments (text_is image p ∙ has) in
     let fits = each some.0 some.1 some.2 in
@@ -68,7 +72,8 @@ text_below image p each has =
     omega (arith, inside, fits.below)
 
 -- the next word of the first segment that has one is the next of all that rise
-next_here : (xs : List Segment) (p i w : ℕ) (d : Segment) → AllPairs EndsBefore xs → i < length xs → IsNextIn (get_or xs i d) p (Some w)
+next_here : (xs : List Segment) (p i w : ℕ) (d : Segment) → AllPairs EndsBefore xs → i < length xs
+    → IsNextIn (get_or xs i d) p (Some w)
     → ((k : ℕ) → k < i → IsNextIn (get_or xs k d) p None) → IsNextAmong xs p (Some w)
 next_here xs p i w d rising within next before = (
   list_any_at (λ s. has_word_at s w) xs i d within next.0,
@@ -82,7 +87,8 @@ next_here xs p i w d rising within next before = (
       elim (cases_lt k i) [
         | inl lower ↦ absurd (false≢true (sym (before k lower n above) ∙ there))
         | inr at ↦ elim (cases_eq k i) [
-          | inl same ↦ (let Q : ℕ → Type 0 = λ m. has_word_at (get_or xs m d) n ≡ true in next.2 n above (subst Q same there))
+          | inl same ↦ (let Q : ℕ → Type 0 = λ m. has_word_at (get_or xs m d) n ≡ true in next.2 n above
+              (subst Q same there))
           | inr other ↦
               let behind : EndsBefore (get_or xs i d) (get_or xs k d) = rising i k d (omega arith) some.2 in
               let end : w + 4 ≤ (get_or xs i d).at + (get_or xs i d).size = word_inside (get_or xs i d) w next.0 in
@@ -104,7 +110,8 @@ at_place xs items first k d behind at =
     ap (λ l. get_or l (k - first) d) behind ∙ get_or-drop first xs (k - first) d ∙ ap (λ m. get_or xs m d) back
 
 -- no segment has a word where the first ones have ended and some after them, the first items, have none
-none_before : (xs items : List Segment) (p first count k : ℕ) (d : Segment) → AllWithin (λ s. s.at + s.size ≤ p) xs 0 first
+none_before : (xs items : List Segment) (p first count k : ℕ) (d : Segment)
+    → AllWithin (λ s. s.at + s.size ≤ p) xs 0 first
     → items ≡ drop first xs → All (λ s. IsNextIn s p None) (take count items) → k < first + count → k < length xs
     → IsNextIn (get_or xs k d) p None
 none_before xs items p first count k d ended behind none below within =
@@ -122,7 +129,8 @@ none_before xs items p first count k d ended behind none below within =
 -- the word that a walk over the items after the first segments finds first
 pub next_found : (xs items : List Segment) (p first index w : ℕ) (d : Segment) → AllPairs EndsBefore xs
     → AllWithin (λ s. s.at + s.size ≤ p) xs 0 first → items ≡ drop first xs → index < length items
-    → All (λ s. IsNextIn s p None) (take index items) → IsNextIn (get_or items index d) p (Some w) → IsNextAmong xs p (Some w)
+    → All (λ s. IsNextIn s p None) (take index items) → IsNextIn (get_or items index d) p (Some w)
+    → IsNextAmong xs p (Some w)
 next_found xs items p first index w d rising ended behind inside none here =
     let P : Segment → Type 0 = λ s. IsNextIn s p (Some w) in
     let long : length items ≡ length xs - first = ap length behind ∙ length-drop first xs in
@@ -135,7 +143,8 @@ next_found xs items p first index w d rising ended behind inside none here =
 
 -- or that it finds none
 pub next_nowhere : (xs items : List Segment) (p first count : ℕ) → AllWithin (λ s. s.at + s.size ≤ p) xs 0 first
-    → items ≡ drop first xs → length items ≤ count → All (λ s. IsNextIn s p None) (take count items) → IsNextAmong xs p None
+    → items ≡ drop first xs → length items ≤ count → All (λ s. IsNextIn s p None) (take count items)
+    → IsNextAmong xs p None
 next_nowhere xs items p first count ended behind all none = λ n above.
     let long : length items ≡ length xs - first = ap length behind ∙ length-drop first xs in
     list_any_none (λ s. has_word_at s n) xs

@@ -22,10 +22,12 @@ placed_is s [] = refl
 placed_is s (next ∷ others) = place_by (nat_le s.at next.at) s next others _ _ (placed_is s others)
 
 -- its place is that of the first segment that begins at or above it
-pub placed_at : (s : Segment) (others : List Segment) (place : ℕ) → Some place ≡ position (λ next. nat_le s.at next.at) others
+pub placed_at : (s : Segment) (others : List Segment) (place : ℕ)
+    → Some place ≡ position (λ next. nat_le s.at next.at) others
     → placed s others ≡ insert others place s
 placed_at s others place found =
-    let at = cond_some (nat_lt (position_or_len (λ next. nat_le s.at next.at) others) (length others)) _ place (sym found) in
+    let at = cond_some (nat_lt (position_or_len (λ next. nat_le s.at next.at) others) (length others)) _ place
+    (sym found) in
     placed_is s others ∙ ap (λ n. insert others n s) at.1
 
 -- or the end, where there is none

@@ -42,7 +42,8 @@ too_many_headers file = fails_where (nat_lt 64 (e_phnum file)) (TooManySegments 
 
 abbrev pub headers_cut : List ℕ → Option ElfFault
 headers_cut file =
-    fails_where (not (e_phnum file == 0) && nat_lt (length file) (headers_end file)) (Truncated (headers_end file) (length file))
+    fails_where (not (e_phnum file == 0) && nat_lt (length file) (headers_end file))
+    (Truncated (headers_end file) (length file))
 
 abbrev pub bytes_outside : List ℕ → ℕ → Bool
 bytes_outside file i = nat_lt (length file) ((header file i).p_offset + (header file i).p_filesz)

@@ -12,7 +12,8 @@ has_word address segment = nat_le segment.at address && nat_le (address + 4) (se
 unfoldable pub word_at : Image → ℕ → Option ℕ
 word_at image address =
     if address % 4 == 0
-    then option_map (λ segment. u32_at image.file (segment.offset + (address - segment.at))) (find (has_word address) image.segments)
+    then option_map (λ segment. u32_at image.file (segment.offset + (address - segment.at)))
+    (find (has_word address) image.segments)
     else None
 
 -- the address is in the text

@@ -7,11 +7,13 @@ use Rattle.riscv_spec.specs.Pair.{is_pair, pair_of}
 use Rattle.flow_graph.specs.Offset.{IsNear}
 
 -- 12 bits of two's complement
-jalr_immediate_range : (word : ℕ) → (neg_ℤ (pos (2 ^ 11)) ≤ℤ jalr_immediate word) × (jalr_immediate word <ℤ pos (2 ^ 11))
+jalr_immediate_range : (word : ℕ)
+    → (neg_ℤ (pos (2 ^ 11)) ≤ℤ jalr_immediate word) × (jalr_immediate word <ℤ pos (2 ^ 11))
 jalr_immediate_range word = grind (arith, ints)
 
 -- 32 bits of two's complement
-auipc_immediate_range : (word : ℕ) → (neg_ℤ (pos (2 ^ 31)) ≤ℤ auipc_immediate word) × (auipc_immediate word <ℤ pos (2 ^ 31))
+auipc_immediate_range : (word : ℕ)
+    → (neg_ℤ (pos (2 ^ 31)) ≤ℤ auipc_immediate word) × (auipc_immediate word <ℤ pos (2 ^ 31))
 auipc_immediate_range word = grind (arith, ints)
 
 -- both together lead no farther than once round

@@ -52,15 +52,18 @@ module _ (image : Image) (at : ℕ) where
   return-right : (link : Link) (top : Option Frame) → IsRight (return_to image at link top)
   return-right X1 None = tt
   return-right X5 None = refl
-  return-right X1 (Some frame) = link-tested (is_same_link X1 frame.link) (if_good image at frame.back (Ok (Back frame.back))) (good-tested frame.back (Ok (Back frame.back)) tt)
-  return-right X5 (Some frame) = link-tested (is_same_link X5 frame.link) (if_good image at frame.back (Ok (Back frame.back))) (good-tested frame.back (Ok (Back frame.back)) tt)
+  return-right X1 (Some frame) = link-tested (is_same_link X1 frame.link)
+      (if_good image at frame.back (Ok (Back frame.back))) (good-tested frame.back (Ok (Back frame.back)) tt)
+  return-right X5 (Some frame) = link-tested (is_same_link X5 frame.link)
+      (if_good image at frame.back (Ok (Back frame.back))) (good-tested frame.back (Ok (Back frame.back)) tt)
 
   -- where control can't go on from an address of the text, its word is why
   pub refused : (top : Option Frame) (transfer : Transfer) → IsText image at → IsRight (next_by image at top transfer)
   refused top plain text = text-tested (next_word at) (Ok (Go (next_word at))) tt
   refused top (branch target) text =
       text-tested (next_word at) (if_good image at target (branch_to (next_word at) target))
-      (good-tested target (branch_to (next_word at) target) (branch-right (target == next_word at) (Go (next_word at)) (Fork (next_word at) target)))
+      (good-tested target (branch_to (next_word at) target)
+      (branch-right (target == next_word at) (Go (next_word at)) (Fork (next_word at) target)))
   refused top (jump target) text = good-tested target (Ok (Go target)) tt
   refused top (call target link) text = good-tested target (Ok (Enter target (frame_of at target link))) tt
   refused top (returning link) text = return-right link top

@@ -33,14 +33,16 @@ pub record IsAccepted (step : Step) (image : Image) (entry : ℕ) (layers : List
   pub few : length (all_of layers) ≤ fetch_limit
 
 -- c is the first faulty configuration of its layer, and neither a fault nor the limit was met before
-pub record IsFirstFaulty (step : Step) (image : Image) (entry : ℕ) (earlier : List (List Configuration)) (before : List Configuration) (c : Configuration) (after : List Configuration) : Type 0 where
+pub record IsFirstFaulty (step : Step) (image : Image) (entry : ℕ) (earlier : List (List Configuration))
+    (before : List Configuration) (c : Configuration) (after : List Configuration) : Type 0 where
   pub entry_is_good : IsTrue (is_good_target image entry)
   pub are_layers : AreLayers step entry (earlier ++ (before ++ c ∷ after) ∷ [])
   pub faultless : AllByRecursion (IsFaultless step) (all_of earlier ++ before)
   pub few : length (all_of earlier ++ (before ++ c ∷ after)) ≤ fetch_limit
 
 -- no layer before the last has a fault, and only with the last one the limit is passed
-pub record PassesLimit (step : Step) (image : Image) (entry : ℕ) (earlier : List (List Configuration)) (last : List Configuration) : Type 0 where
+pub record PassesLimit (step : Step) (image : Image) (entry : ℕ) (earlier : List (List Configuration))
+    (last : List Configuration) : Type 0 where
   pub entry_is_good : IsTrue (is_good_target image entry)
   pub are_layers : AreLayers step entry (earlier ++ last ∷ [])
   pub faultless : AllByRecursion (IsFaultless step) (all_of earlier)
@@ -52,7 +54,8 @@ HasBadEntry image entry fault = IsTrue (not (is_good_target image entry)) × (fa
 
 abbrev pub HasFaulty : Step → Image → ℕ → FlowFault → Type 0
 HasFaulty step image entry fault =
-    (earlier : List (List Configuration)) × (before : List Configuration) × (c : Configuration) × (after : List Configuration)
+    (earlier : List (List Configuration)) × (before : List Configuration) × (c : Configuration)
+    × (after : List Configuration)
     × IsFirstFaulty step image entry earlier before c after × (step c ≡ Err fault)
 
 abbrev pub HasTooMany : Step → Image → ℕ → FlowFault → Type 0

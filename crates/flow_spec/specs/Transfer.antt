@@ -46,7 +46,8 @@ transfer_by address kinds.Illegal = illegal
 -- the number of the pair whose second half is at the address, if there is one
 abbrev pub pair_at : Image → ℕ → Option ℤ
 pair_at image address =
-    option_and_then (λ previous. option_and_then (λ word. pair_of previous word) (word_at image address)) (word_at image (before address))
+    option_and_then (λ previous. option_and_then (λ word. pair_of previous word) (word_at image address))
+    (word_at image (before address))
 
 abbrev pub is_second_half : Image → ℕ → Bool
 is_second_half image address = is_some (pair_at image address)

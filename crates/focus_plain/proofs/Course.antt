@@ -24,25 +24,33 @@ slice_get-behind [] y = refl
 slice_get-behind (x ∷ xs) y = slice_get-behind xs y
 
 -- entries keep their nodes
-pub node_at-front : (trail more : List TrailEntry) (k : ℕ) → k < length trail → node_at (trail ++ more) k ≡ node_at trail k
+pub node_at-front : (trail more : List TrailEntry) (k : ℕ) → k < length trail
+    → node_at (trail ++ more) k ≡ node_at trail k
 node_at-front trail more k inside = ap node_of (slice_get-front trail more k inside)
 
 -- and the entries before them
-earlier_at-front : (trail more : List TrailEntry) (k : ℕ) → k < length trail → earlier_at (trail ++ more) k ≡ earlier_at trail k
+earlier_at-front : (trail more : List TrailEntry) (k : ℕ) → k < length trail
+    → earlier_at (trail ++ more) k ≡ earlier_at trail k
 earlier_at-front trail more k inside = ap earlier_of (slice_get-front trail more k inside)
 
 module _ (view : View) (block : ℕ) where
   -- what leads on to a node leads on to it still
-  leads-front : (trail more : List TrailEntry) (number : ℕ) (before : Option ℕ) (node : ℕ) → number < length trail → LeadsOn view.nodes trail number before node
+  leads-front : (trail more : List TrailEntry) (number : ℕ) (before : Option ℕ) (node : ℕ) → number < length trail
+      → LeadsOn view.nodes trail number before node
       → LeadsOn view.nodes (trail ++ more) number before node
   leads-front trail more number None node inside leads = leads
   leads-front trail more number (Some earlier) node inside leads =
-      let smaller : earlier < number = leads.0 in
-      (smaller, subst (λ (n : ℕ). IsSuccessor (graph_step view.nodes) n node) (sym (node_at-front trail more earlier (omega arith))) leads.1)
+      let smaller : earlier < number = leads.0 in (
+        smaller,
+        subst (λ (n : ℕ). IsSuccessor (graph_step view.nodes) n node)
+            (sym (node_at-front trail more earlier (omega arith))) leads.1,
+      )
 
   -- a chain stays one
-  chain-front : (trail more : List TrailEntry) → IsTrail view.nodes trail → (members : List ℕ) (number : ℕ) (before : Option ℕ) (node : ℕ) → number ≤ length trail
-      → LeadsOn view.nodes trail number before node → IsChain trail before members → IsChain (trail ++ more) before members
+  chain-front : (trail more : List TrailEntry) → IsTrail view.nodes trail
+      → (members : List ℕ) (number : ℕ) (before : Option ℕ) (node : ℕ) → number ≤ length trail
+      → LeadsOn view.nodes trail number before node → IsChain trail before members
+      → IsChain (trail ++ more) before members
   chain-front trail more is [] number None node inside leads chain = tt
   chain-front trail more is (x ∷ members) number None node inside leads chain = absurd chain
   chain-front trail more is [] number (Some earlier) node inside leads chain = absurd chain
@@ -51,11 +59,13 @@ module _ (view : View) (block : ℕ) where
       let there : earlier < length trail = omega arith in (
         chain.0 ∙ sym (node_at-front trail more earlier there),
         subst (λ (o : Option ℕ). IsChain (trail ++ more) o members) (sym (earlier_at-front trail more earlier there))
-            (chain-front trail more is members earlier (earlier_at trail earlier) (node_at trail earlier) (omega arith) (is earlier there) chain.1),
+            (chain-front trail more is members earlier (earlier_at trail earlier) (node_at trail earlier) (omega arith)
+            (is earlier there) chain.1),
       )
 
   -- a sound entry stays so
-  sound-front : (trail more : List TrailEntry) (number : ℕ) (younger : Option (List ℕ)) → IsTrail view.nodes trail → number < length trail
+  sound-front : (trail more : List TrailEntry) (number : ℕ) (younger : Option (List ℕ)) → IsTrail view.nodes trail
+      → number < length trail
       → IsSound view block trail number younger → IsSound view block (trail ++ more) number younger
   sound-front trail more number younger is inside sound =
       let members : List ℕ = sound.0 in (
@@ -63,12 +73,14 @@ module _ (view : View) (block : ℕ) where
         (
           refl,
           subst (λ (o : Option ℕ). IsChain (trail ++ more) o members) (sym (earlier_at-front trail more number inside))
-              (chain-front trail more is members number (earlier_at trail number) (node_at trail number) (omega arith) (is number inside) sound.1.1),
+              (chain-front trail more is members number (earlier_at trail number) (node_at trail number) (omega arith)
+              (is number inside) sound.1.1),
         ),
         sound.2,
       )
 
-  module _ (trail : List TrailEntry) (seen : List (Option (List ℕ))) (course : IsCourse view block trail seen) (from to : ℕ) (from_inside : from < length trail)
+  module _ (trail : List TrailEntry) (seen : List (Option (List ℕ))) (course : IsCourse view block trail seen)
+      (from to : ℕ) (from_inside : from < length trail)
       (edge : IsSuccessor (graph_step view.nodes) (node_at trail from) to) where
     -- the trail with the new entry
     abbrev further : List TrailEntry
@@ -92,14 +104,18 @@ module _ (view : View) (block : ℕ) where
     trail_further : IsTrail view.nodes further
     trail_further number inside = elim (old_or_new number inside) [
       | inl old ↦
-          subst (λ (o : Option ℕ). LeadsOn view.nodes further number o (node_at further number)) (sym (earlier_at-front trail _ number old))
-          (subst (λ (n : ℕ). LeadsOn view.nodes further number (earlier_at trail number) n) (sym (node_at-front trail _ number old))
+          subst (λ (o : Option ℕ). LeadsOn view.nodes further number o (node_at further number))
+          (sym (earlier_at-front trail _ number old))
+          (subst (λ (n : ℕ). LeadsOn view.nodes further number (earlier_at trail number) n)
+          (sym (node_at-front trail _ number old))
           (leads-front trail _ number (earlier_at trail number) (node_at trail number) old (course.follows number old)))
       | inr new ↦
-          let at : slice_get further number ≡ Some (record { node = to; earlier = Some from }) = ap (slice_get further) new ∙ new_is in
+          let at : slice_get further number ≡ Some (record { node = to; earlier = Some from }) =
+          ap (slice_get further) new ∙ new_is in
           let leads : LeadsOn view.nodes further number (Some from) to = (
             omega (arith, new),
-            subst (λ (n : ℕ). IsSuccessor (graph_step view.nodes) n to) (sym (node_at-front trail _ from from_inside)) edge,
+            subst (λ (n : ℕ). IsSuccessor (graph_step view.nodes) n to) (sym (node_at-front trail _ from from_inside))
+                edge,
           ) in
           subst (λ (o : Option TrailEntry). LeadsOn view.nodes further number (earlier_of o) (node_of o)) (sym at) leads
     ]
@@ -110,7 +126,8 @@ module _ (view : View) (block : ℕ) where
     sound_new =
         let before = course.sound from from_inside in
         let members : List ℕ = node_at trail from ∷ before.0 in
-        let kept = sound-front trail (record { node = to; earlier = Some from } ∷ []) from (seen_at seen from) course.follows from_inside before in
+        let kept = sound-front trail (record { node = to; earlier = Some from } ∷ []) from (seen_at seen from)
+        course.follows from_inside before in
         let whole : IsChain further (Some from) members =
         (sym (node_at-front trail _ from from_inside), kept.1.1) in (
           members,
@@ -119,13 +136,16 @@ module _ (view : View) (block : ℕ) where
         )
 
     -- each entry is sound
-    sound_further : (number : ℕ) → number < length further → IsSound view block further number (seen_at (seen ++ younger ∷ []) number)
+    sound_further : (number : ℕ) → number < length further
+        → IsSound view block further number (seen_at (seen ++ younger ∷ []) number)
     sound_further number inside = elim (old_or_new number inside) [
       | inl old ↦
-          subst (IsSound view block further number) (sym (get_or_append_left seen (younger ∷ []) None number (omega (arith, course.one_each))))
+          subst (IsSound view block further number) (sym (get_or_append_left seen (younger ∷ []) None number
+          (omega (arith, course.one_each))))
           (sound-front trail _ number (seen_at seen number) course.follows old (course.sound number old))
       | inr new ↦
-          subst (IsSound view block further number) (sym (get_or_push seen younger None number (course.one_each ∙ sym new)))
+          subst (IsSound view block further number) (sym (get_or_push seen younger None number
+          (course.one_each ∙ sym new)))
           (subst (λ (k : ℕ). IsSound view block further k younger) (sym new) sound_new)
     ]
 
@@ -135,7 +155,8 @@ module _ (view : View) (block : ℕ) where
       one_each = length_push seen younger ∙ ap (λ n. n + 1) course.one_each ∙ sym (length_push trail _);
       some = omega (arith, course.some, length_push trail (record { node = to; earlier = Some from }));
       first_node = node_at-front trail _ 0 course.some ∙ course.first_node;
-      first_seen = get_or_append_left seen (younger ∷ []) None 0 (omega (arith, course.one_each, course.some)) ∙ course.first_seen;
+      first_seen = get_or_append_left seen (younger ∷ []) None 0 (omega (arith, course.one_each, course.some))
+          ∙ course.first_seen;
       follows = trail_further;
       sound = sound_further;
     }
@@ -143,41 +164,68 @@ module _ (view : View) (block : ℕ) where
     -- the node of the edge has the new entry below and above
     pub between_new : IsBetween further (seen ++ younger ∷ []) to younger
     between_new =
-        let inside : length trail < length further = omega (arith, length_push trail (record { node = to; earlier = Some from })) in
-        let at : seen_at (seen ++ younger ∷ []) (length trail) ≡ younger = get_or_push seen younger None (length trail) course.one_each in
+        let inside : length trail < length further =
+        omega (arith, length_push trail (record { node = to; earlier = Some from })) in
+        let at : seen_at (seen ++ younger ∷ []) (length trail) ≡ younger =
+        get_or_push seen younger None (length trail) course.one_each in
         record {
-          below = (length trail, inside, ap node_of new_is, subst (λ (o : Option (List ℕ)). IsBelow o younger) (sym at) (below_refl younger));
-          above = (length trail, inside, ap node_of new_is, subst (λ (o : Option (List ℕ)). IsBelow younger o) (sym at) (below_refl younger));
+          below = (
+            length trail,
+            inside,
+            ap node_of new_is,
+            subst (λ (o : Option (List ℕ)). IsBelow o younger) (sym at) (below_refl younger),
+          );
+          above = (
+            length trail,
+            inside,
+            ap node_of new_is,
+            subst (λ (o : Option (List ℕ)). IsBelow younger o) (sym at) (below_refl younger),
+          );
         }
 
 -- what lies between entries lies between them when there are more
-pub between_kept : (trail trail' : List TrailEntry) (seen seen' : List (Option (List ℕ))) (n : ℕ) (younger : Option (List ℕ)) → length seen ≡ length trail
+pub between_kept : (trail trail' : List TrailEntry) (seen seen' : List (Option (List ℕ))) (n : ℕ)
+    (younger : Option (List ℕ)) → length seen ≡ length trail
     → IsLonger trail trail' → IsLonger seen seen' → IsBetween trail seen n younger → IsBetween trail' seen' n younger
 between_kept trail trail' seen seen' n younger one_each longer seen_longer between =
     let low = between.below in
     let high = between.above in
     let more : length trail ≤ length trail' = omega (arith, ap length longer.1, length-append trail longer.0) in
     record {
-      below = (low.0, omega (arith, low.1, more), node low.0 low.1 ∙ low.2, subst (λ (o : Option (List ℕ)). IsBelow o younger) (sym (set low.0 low.1)) low.3);
-      above = (high.0, omega (arith, high.1, more), node high.0 high.1 ∙ high.2, subst (λ (o : Option (List ℕ)). IsBelow younger o) (sym (set high.0 high.1)) high.3);
+      below = (
+        low.0,
+        omega (arith, low.1, more),
+        node low.0 low.1 ∙ low.2,
+        subst (λ (o : Option (List ℕ)). IsBelow o younger) (sym (set low.0 low.1)) low.3,
+      );
+      above = (
+        high.0,
+        omega (arith, high.1, more),
+        node high.0 high.1 ∙ high.2,
+        subst (λ (o : Option (List ℕ)). IsBelow younger o) (sym (set high.0 high.1)) high.3,
+      );
     }
   where
     node : (k : ℕ) → k < length trail → node_at trail' k ≡ node_at trail k
     node k inside = ap (λ t. node_at t k) longer.1 ∙ node_at-front trail longer.0 k inside
 
     set : (k : ℕ) → k < length trail → seen_at seen' k ≡ seen_at seen k
-    set k inside = ap (λ s. seen_at s k) seen_longer.1 ∙ get_or_append_left seen seen_longer.0 None k (omega (arith, inside, one_each))
+    set k inside = ap (λ s. seen_at s k) seen_longer.1
+        ∙ get_or_append_left seen seen_longer.0 None k (omega (arith, inside, one_each))
 
 -- a sound entry's set rises
-seen-rising : (view : View) (block : ℕ) (trail : List TrailEntry) (seen : List (Option (List ℕ))) (number : ℕ) → IsCourse view block trail seen → number < length trail
+seen-rising : (view : View) (block : ℕ) (trail : List TrailEntry) (seen : List (Option (List ℕ))) (number : ℕ)
+    → IsCourse view block trail seen → number < length trail
     → IsRising (seen_at seen number)
 seen-rising view block trail seen number course inside =
     let sound = course.sound number inside in
     subst IsRising sound.2 (left_by-rising view block sound.0)
 
 -- once all entries are spread, what each path leaves lies between entries at its last node
-pub paths_between : (view : View) (block : ℕ) (trail : List TrailEntry) (seen : List (Option (List ℕ))) → IsCourse view block trail seen
-    → IsSpread view block trail seen (length trail) → (earlier : List ℕ) (n : ℕ) → IsPath (graph_step view.nodes) 0 (n ∷ earlier)
+pub paths_between : (view : View) (block : ℕ) (trail : List TrailEntry) (seen : List (Option (List ℕ)))
+    → IsCourse view block trail seen
+    → IsSpread view block trail seen (length trail) → (earlier : List ℕ) (n : ℕ)
+    → IsPath (graph_step view.nodes) 0 (n ∷ earlier)
     → IsBetween trail seen n (left_by view block earlier)
 paths_between view block trail seen course spread [] n path = record {
   below = (0, course.some, course.first_node ∙ sym path, tt);
@@ -189,17 +237,34 @@ paths_between view block trail seen course spread (c ∷ earlier) n path =
     let high = before.above in
     let left : Option (List ℕ) = left_by view block earlier in
     let rising = left_by-rising view block earlier in
-    let low_next = spread low.0 n low.1 (subst (λ (k : ℕ). IsSuccessor (graph_step view.nodes) k n) (sym low.2) path.0) in
-    let high_next = spread high.0 n high.1 (subst (λ (k : ℕ). IsSuccessor (graph_step view.nodes) k n) (sym high.2) path.0) in
+    let low_next = spread low.0 n low.1 (subst (λ (k : ℕ). IsSuccessor (graph_step view.nodes) k n) (sym low.2)
+    path.0) in
+    let high_next = spread high.0 n high.1 (subst (λ (k : ℕ). IsSuccessor (graph_step view.nodes) k n) (sym high.2)
+    path.0) in
     let low_moved : IsBelow (behind view block (node_at trail low.0) (seen_at seen low.0)) (behind view block c left) =
     subst (λ (k : ℕ). IsBelow (behind view block k (seen_at seen low.0)) (behind view block c left)) (sym low.2)
-    (behind-below view block c (seen_at seen low.0) left (seen-rising view block trail seen low.0 course low.1) rising low.3) in
-    let high_moved : IsBelow (behind view block c left) (behind view block (node_at trail high.0) (seen_at seen high.0)) =
+    (behind-below view block c (seen_at seen low.0) left (seen-rising view block trail seen low.0 course low.1) rising
+    low.3) in
+    let high_moved : IsBelow (behind view block c left) (behind view block (node_at trail high.0)
+    (seen_at seen high.0)) =
     subst (λ (k : ℕ). IsBelow (behind view block c left) (behind view block k (seen_at seen high.0))) (sym high.2)
-    (behind-below view block c left (seen_at seen high.0) rising (seen-rising view block trail seen high.0 course high.1) high.3) in
+    (behind-below view block c left (seen_at seen high.0) rising
+    (seen-rising view block trail seen high.0 course high.1) high.3) in
     let last = low_next.below in
     let top = high_next.above in
     subst (IsBetween trail seen n) (sym (left_by-more view block c earlier)) (record {
-      below = (last.0, last.1, last.2, below_trans (seen_at seen last.0) (behind view block (node_at trail low.0) (seen_at seen low.0)) (behind view block c left) last.3 low_moved);
-      above = (top.0, top.1, top.2, below_trans (behind view block c left) (behind view block (node_at trail high.0) (seen_at seen high.0)) (seen_at seen top.0) high_moved top.3);
+      below = (
+        last.0,
+        last.1,
+        last.2,
+        below_trans (seen_at seen last.0) (behind view block (node_at trail low.0) (seen_at seen low.0))
+            (behind view block c left) last.3 low_moved,
+      );
+      above = (
+        top.0,
+        top.1,
+        top.2,
+        below_trans (behind view block c left) (behind view block (node_at trail high.0) (seen_at seen high.0))
+            (seen_at seen top.0) high_moved top.3,
+      );
     })

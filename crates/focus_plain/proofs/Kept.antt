@@ -22,24 +22,29 @@ pub record AreKept (view : View) (block count : ℕ) (places : List PlainPlace) 
   pub sets : All (IsPlainPlace view block) places
 
 -- one node more
-pub kept_more : (view : View) (block : ℕ) (places new : List PlainPlace) (last : PlainPlace) (fetches : Bool) (fetch : Option ℕ)
-    → new ≡ (if fetches then places ++ last ∷ [] else places) → fetches ≡ option_eq eqb fetch (Some block) → fetch ≡ fetch_at view.fetches last.node
+pub kept_more : (view : View) (block : ℕ) (places new : List PlainPlace) (last : PlainPlace) (fetches : Bool)
+    (fetch : Option ℕ)
+    → new ≡ (if fetches then places ++ last ∷ [] else places) → fetches ≡ option_eq eqb fetch (Some block)
+    → fetch ≡ fetch_at view.fetches last.node
     → AreKept view block last.node places → IsPlainPlace view block last → AreKept view block (last.node + 1) new
 kept_more view block places new last fetches fetch new_is test fetch_is kept right = elim (cases_Bool fetches) [
   | inl on ↦
       let all : new ≡ places ++ last ∷ [] = new_is ∙ ap (λ (b : Bool). if b then places ++ last ∷ [] else places) on in
       let found = same_number fetch block (sym test ∙ on) in
       record {
-        nodes = fetchers_more view.fetches block last.node (nodes_of places) (nodes_of new) kept.nodes (sym fetch_is ∙ found)
+        nodes = fetchers_more view.fetches block last.node (nodes_of places) (nodes_of new) kept.nodes
+            (sym fetch_is ∙ found)
             (ap nodes_of all ∙ map-append (λ (p : PlainPlace). p.node) places (last ∷ []));
-        sets = subst (λ (ps : List PlainPlace). All (IsPlainPlace view block) ps) (sym all) (All-push (IsPlainPlace view block) places last kept.sets right);
+        sets = subst (λ (ps : List PlainPlace). All (IsPlainPlace view block) ps) (sym all)
+            (All-push (IsPlainPlace view block) places last kept.sets right);
       }
   | inr off ↦
       let all : places ≡ new = sym (new_is ∙ ap (λ (b : Bool). if b then places ++ last ∷ [] else places) off) in
       let other = other_number fetch block (sym test ∙ off) in
       record {
         nodes = subst (λ (ps : List PlainPlace). AreFetchersBelow view.fetches block (last.node + 1) (nodes_of ps)) all
-            (fetchers_passed view.fetches block last.node (nodes_of places) kept.nodes (λ same. other (fetch_is ∙ same)));
+            (fetchers_passed view.fetches block last.node (nodes_of places) kept.nodes
+            (λ same. other (fetch_is ∙ same)));
         sets = subst (λ (ps : List PlainPlace). All (IsPlainPlace view block) ps) all kept.sets;
       }
 ]

@@ -16,28 +16,37 @@ left None = 0
 left (Some number) = number + 1
 
 -- what an entry that is read says
-pub entry_read : (entries : List Entry) (number : ℕ) (entry : Entry) → number < length entries → entry ≡ get_or entries number entry → slice_get entries number ≡ Some entry
+pub entry_read : (entries : List Entry) (number : ℕ) (entry : Entry) → number < length entries
+    → entry ≡ get_or entries number entry → slice_get entries number ≡ Some entry
 entry_read entries number entry inside is = slice_get-get_or entries number entry inside ∙ ap Some (sym is)
 
 -- its node
-pub node-read : (entries : List Entry) (number : ℕ) (entry : Entry) → slice_get entries number ≡ Some entry → node_at (trail_of entries) number ≡ entry.node
-node-read entries number entry is = ap node_of (slice_get-map trail_entry entries number ∙ ap (option_map trail_entry) is)
+pub node-read : (entries : List Entry) (number : ℕ) (entry : Entry) → slice_get entries number ≡ Some entry
+    → node_at (trail_of entries) number ≡ entry.node
+node-read entries number entry is = ap node_of (slice_get-map trail_entry entries number ∙ ap (option_map trail_entry)
+    is)
 
 -- its younger set
-pub seen-read : (sets : List (List ℕ)) (entries : List Entry) (number : ℕ) (entry : Entry) → slice_get entries number ≡ Some entry
+pub seen-read : (sets : List (List ℕ)) (entries : List Entry) (number : ℕ) (entry : Entry)
+    → slice_get entries number ≡ Some entry
     → seen_at (seen_of sets entries) number ≡ set_at sets entry.younger
 seen-read sets [] number entry is = absurd (cc)
-seen-read sets (first ∷ entries) zero entry is = let same : first ≡ entry = cc in ap (λ (e : Entry). set_at sets e.younger) same
+seen-read sets (first ∷ entries) zero entry is = let same : first ≡ entry =
+    cc in ap (λ (e : Entry). set_at sets e.younger) same
 seen-read sets (first ∷ entries) (suc number) entry is = seen-read sets entries number entry is
 
 -- the place of its younger set is one of the table's
-pub place-read : (search : Search) (number : ℕ) (entry : Entry) → AreLinked search → number < length search.entries.items
+pub place-read : (search : Search) (number : ℕ) (entry : Entry) → AreLinked search
+    → number < length search.entries.items
     → slice_get search.entries.items number ≡ Some entry → IsPlace search.sets.items entry.younger
-place-read search number entry linked inside is = subst (λ (o : Option Entry). IsPlace search.sets.items (place_of o)) is (linked.places number inside)
+place-read search number entry linked inside is =
+    subst (λ (o : Option Entry). IsPlace search.sets.items (place_of o)) is (linked.places number inside)
 
 -- the entries at a node are linked
-pub next-read : (search : Search) (number : ℕ) (entry : Entry) (other n : ℕ) → AreLinked search → number < length search.entries.items
-    → slice_get search.entries.items number ≡ Some entry → node_at (trail_of search.entries.items) number ≡ n → entry.next ≡ Some other
+pub next-read : (search : Search) (number : ℕ) (entry : Entry) (other n : ℕ) → AreLinked search
+    → number < length search.entries.items
+    → slice_get search.entries.items number ≡ Some entry → node_at (trail_of search.entries.items) number ≡ n
+    → entry.next ≡ Some other
     → (other < number) × (other < length search.entries.items) × (node_at (trail_of search.entries.items) other ≡ n)
 next-read search number entry other n linked inside is at next =
     let step = linked.next number other inside (ap next_of is ∙ next) in
@@ -54,16 +63,19 @@ length-seen sets entries = length-map entries (λ entry. set_at sets entry.young
 
 -- an entry at the node lies below
 pub found_below : (entries : List Entry) (seen : List (Option (List ℕ))) (n number : ℕ) (younger : Option (List ℕ))
-    → (number < length entries) × (node_at (trail_of entries) number ≡ n) → IsBelow (seen_at seen number) younger → HasBelow (trail_of entries) seen n younger
+    → (number < length entries) × (node_at (trail_of entries) number ≡ n) → IsBelow (seen_at seen number) younger
+    → HasBelow (trail_of entries) seen n younger
 found_below entries seen n number younger at below = (number, omega (arith, at.0, length-trail entries), at.1, below)
 
 -- an entry at the node lies above
 pub found_above : (entries : List Entry) (seen : List (Option (List ℕ))) (n number : ℕ) (younger : Option (List ℕ))
-    → (number < length entries) × (node_at (trail_of entries) number ≡ n) → IsBelow younger (seen_at seen number) → HasAbove (trail_of entries) seen n younger
+    → (number < length entries) × (node_at (trail_of entries) number ≡ n) → IsBelow younger (seen_at seen number)
+    → HasAbove (trail_of entries) seen n younger
 found_above entries seen n number younger at above = (number, omega (arith, at.0, length-trail entries), at.1, above)
 
 -- the entries go back
-pub left-falls : (next now : Option ℕ) (number : ℕ) → now ≡ Some number → ((other : ℕ) → next ≡ Some other → other < number) → left next < left now
+pub left-falls : (next now : Option ℕ) (number : ℕ) → now ≡ Some number
+    → ((other : ℕ) → next ≡ Some other → other < number) → left next < left now
 left-falls None now number is smaller = subst (λ (o : Option ℕ). 0 < left o) (sym is) (omega arith)
 left-falls (Some other) now number is smaller =
     let less = smaller other refl in

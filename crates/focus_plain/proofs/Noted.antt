@@ -21,12 +21,15 @@ some_there None is = absurd (cc)
 some_there (Some x) is = (x, refl)
 
 -- the first entry of a node
-pub noted_new : (ends : List (Option ℕ)) (node number : ℕ) → node < length ends → get_or ends node None ≡ None → IsNoted ends (slice_set ends node (Some number)) node number
+pub noted_new : (ends : List (Option ℕ)) (node number : ℕ) → node < length ends → get_or ends node None ≡ None
+    → IsNoted ends (slice_set ends node (Some number)) node number
 noted_new ends node number inside none = record {
   as_long = length-set ends node (Some number);
   only = λ n other found. elim (cases_eq n node) [
     | inl same ↦
-        let here : latest_at (slice_set ends node (Some number)) n ≡ Some number = ap (latest_at (slice_set ends node (Some number))) same ∙ get_or-set_same ends node (Some number) None inside in
+        let here : latest_at (slice_set ends node (Some number)) n
+        ≡ Some number = ap (latest_at (slice_set ends node (Some number))) same
+        ∙ get_or-set_same ends node (Some number) None inside in
         inr (same, same_Some other number (sym found ∙ here))
     | inr apart ↦ inl (sym (get_or-set_other ends node n (Some number) None apart) ∙ found)
   ];
@@ -38,7 +41,8 @@ noted_new ends node number inside none = record {
 }
 
 -- another entry of a node
-pub noted_same : (ends : List (Option ℕ)) (node number first : ℕ) → get_or ends node None ≡ Some first → IsNoted ends (slice_set ends node (get_or ends node None)) node number
+pub noted_same : (ends : List (Option ℕ)) (node number first : ℕ) → get_or ends node None ≡ Some first
+    → IsNoted ends (slice_set ends node (get_or ends node None)) node number
 noted_same ends node number first found =
     subst (λ (new : List (Option ℕ)). IsNoted ends new node number) (sym (set-get_or ends node None)) (record {
       as_long = refl;
@@ -48,8 +52,10 @@ noted_same ends node number first found =
     })
 
 -- one entry more, which is noted
-pub ends_noted : (entries : List Entry) (index : ℕ) (small : Bool) (old new : List (Option ℕ)) → AreEnds entries index small old
-    → is_some (place_of (slice_get entries index)) ≡ small → IsNoted old new (node_at (trail_of entries) index) index → AreEnds entries (index + 1) small new
+pub ends_noted : (entries : List Entry) (index : ℕ) (small : Bool) (old new : List (Option ℕ))
+    → AreEnds entries index small old
+    → is_some (place_of (slice_get entries index)) ≡ small → IsNoted old new (node_at (trail_of entries) index) index
+    → AreEnds entries (index + 1) small new
 ends_noted entries index small old new ends same noted = record {
   sound = λ n number found. elim (noted.only n number found) [
     | inl before ↦
@@ -62,7 +68,8 @@ ends_noted entries index small old new ends same noted = record {
     )
   ];
   complete = λ number below is. elim (cases_eq index number) [
-    | inl last ↦ subst (λ (k : ℕ). (other : ℕ) × (latest_at new (node_at (trail_of entries) k) ≡ Some other)) last noted.there
+    | inl last ↦ subst (λ (k : ℕ). (other : ℕ) × (latest_at new (node_at (trail_of entries) k) ≡ Some other)) last
+        noted.there
     | inr before ↦
         let there = ends.complete number (omega arith) is in
         (there.0, noted.kept (node_at (trail_of entries) number) there.0 there.1)
@@ -70,7 +77,8 @@ ends_noted entries index small old new ends same noted = record {
 }
 
 -- one entry more, which is passed over
-pub ends_passed : (entries : List Entry) (index : ℕ) (small : Bool) (ends : List (Option ℕ)) → AreEnds entries index small ends
+pub ends_passed : (entries : List Entry) (index : ℕ) (small : Bool) (ends : List (Option ℕ))
+    → AreEnds entries index small ends
     → is_some (place_of (slice_get entries index)) ≢ small → AreEnds entries (index + 1) small ends
 ends_passed entries index small ends are other = record {
   sound = λ n number found.

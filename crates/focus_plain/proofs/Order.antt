@@ -53,7 +53,8 @@ cut-rising ways (Some set) rising = elim (cases_lt (length set) ways) [
 ]
 
 -- a cut keeps the order
-cut-below : (ways : ℕ) (one two : Option (List ℕ)) → IsRising one → IsRising two → IsBelow one two → IsBelow (cut ways one) (cut ways two)
+cut-below : (ways : ℕ) (one two : Option (List ℕ)) → IsRising one → IsRising two → IsBelow one two
+    → IsBelow (cut ways one) (cut ways two)
 cut-below ways one None rising two_rising below = tt
 cut-below ways None (Some two) rising two_rising below = absurd below
 cut-below ways (Some one) (Some two) rising two_rising below = elim (cases_lt (length two) ways) [
@@ -66,26 +67,30 @@ cut-below ways (Some one) (Some two) rising two_rising below = elim (cases_lt (l
 
 -- with one more number the order stays
 with_number-within : (x : ℕ) (one two : List ℕ) → IsSubset one two → IsSubset (with_number x one) (with_number x two)
-with_number-within x one two within = λ y there. (Contains-with_number x two y).1 (elim ((Contains-with_number x one y).0 there) [
-  | inl old ↦ inl (within y old)
-  | inr new ↦ inr new
-])
+with_number-within x one two within =
+    λ y there. (Contains-with_number x two y).1 (elim ((Contains-with_number x one y).0 there) [
+      | inl old ↦ inl (within y old)
+      | inr new ↦ inr new
+    ])
 
 -- one more fetch keeps the order
-after-below : (block : ℕ) (fetch : Option ℕ) (one two : Option (List ℕ)) → IsBelow one two → IsBelow (after block fetch one) (after block fetch two)
+after-below : (block : ℕ) (fetch : Option ℕ) (one two : Option (List ℕ)) → IsBelow one two
+    → IsBelow (after block fetch one) (after block fetch two)
 after-below block None one two below = below
 after-below block (Some other) one two below = elim (cases_Bool (eqb other block)) [
   | inl own ↦ rw own (λ x there. there)
   | inr others ↦ rw others (added one two below)
 ]
   where
-    added : (one two : Option (List ℕ)) → IsBelow one two → IsBelow (option_map (with_number other) one) (option_map (with_number other) two)
+    added : (one two : Option (List ℕ)) → IsBelow one two
+        → IsBelow (option_map (with_number other) one) (option_map (with_number other) two)
     added one None below = tt
     added None (Some two) below = absurd below
     added (Some one) (Some two) below = with_number-within other one two below
 
 -- one more fetch leaves a set that rises
-pub after-rising : (block : ℕ) (fetch : Option ℕ) (younger : Option (List ℕ)) → IsRising younger → IsRising (after block fetch younger)
+pub after-rising : (block : ℕ) (fetch : Option ℕ) (younger : Option (List ℕ)) → IsRising younger
+    → IsRising (after block fetch younger)
 after-rising block None younger rising = rising
 after-rising block (Some other) younger rising = elim (cases_Bool (eqb other block)) [
   | inl own ↦ rw own rising-empty
@@ -103,19 +108,23 @@ younger-rising block (fetch ∷ earlier) = after-rising block fetch (younger blo
 
 -- what a path leaves rises
 pub left_by-rising : (view : View) (block : ℕ) (members : List ℕ) → IsRising (left_by view block members)
-left_by-rising view block members = cut-rising view.geometry.ways (younger_after view.fetches block members) (younger-rising block (map (fetch_at view.fetches) members))
+left_by-rising view block members = cut-rising view.geometry.ways (younger_after view.fetches block members)
+    (younger-rising block (map (fetch_at view.fetches) members))
 
 -- a node keeps the order
-pub behind-below : (view : View) (block n : ℕ) (one two : Option (List ℕ)) → IsRising one → IsRising two → IsBelow one two
+pub behind-below : (view : View) (block n : ℕ) (one two : Option (List ℕ)) → IsRising one → IsRising two
+    → IsBelow one two
     → IsBelow (behind view block n one) (behind view block n two)
 behind-below view block n one two rising two_rising below =
     let fetch : Option ℕ = fetch_at view.fetches n in
-    cut-below view.geometry.ways (after block fetch one) (after block fetch two) (after-rising block fetch one rising) (after-rising block fetch two two_rising)
+    cut-below view.geometry.ways (after block fetch one) (after block fetch two) (after-rising block fetch one rising)
+    (after-rising block fetch two two_rising)
     (after-below block fetch one two below)
 
 -- one number more doesn't make a set shorter
 longer : (x : ℕ) (set : List ℕ) → IsStrictlyIncreasing set → length set ≤ length (with_number x set)
-longer x set rising = subset-short set (with_number x set) rising (rising-with_number x set rising) (λ y there. (Contains-with_number x set y).1 (inl there))
+longer x set rising = subset-short set (with_number x set) rising (rising-with_number x set rising)
+    (λ y there. (Contains-with_number x set y).1 (inl there))
 
 -- what is cut off before a fetch is cut off after it
 cut-after : (ways block : ℕ) (fetch : Option ℕ) (younger : Option (List ℕ)) → IsRising younger
@@ -124,18 +133,23 @@ cut-after ways block None younger rising = cut-cut ways younger
 cut-after ways block (Some other) None rising = refl
 cut-after ways block (Some other) (Some set) rising = elim (cases_lt (length set) ways) [
   | inl small ↦ ap (λ younger. cut ways (after block (Some other) younger)) (cut-small ways set small)
-  | inr large ↦ ap (λ younger. cut ways (after block (Some other) younger)) (cut-large ways set large) ∙ elim (cases_Bool (eqb other block)) [
-    | inl own ↦ rw own refl
-    | inr others ↦ rw others (sym (cut-large ways (with_number other set) (let more = longer other set rising in omega arith)))
-  ]
+  | inr large ↦ ap (λ younger. cut ways (after block (Some other) younger)) (cut-large ways set large)
+      ∙ elim (cases_Bool (eqb other block)) [
+        | inl own ↦ rw own refl
+        | inr others ↦ rw others (sym (cut-large ways (with_number other set)
+            (let more = longer other set rising in omega arith)))
+      ]
 ]
 
 -- one member further
-pub left_by-more : (view : View) (block n : ℕ) (members : List ℕ) → left_by view block (n ∷ members) ≡ behind view block n (left_by view block members)
+pub left_by-more : (view : View) (block n : ℕ) (members : List ℕ)
+    → left_by view block (n ∷ members) ≡ behind view block n (left_by view block members)
 left_by-more view block n members =
-    sym (cut-after view.geometry.ways block (fetch_at view.fetches n) (younger_after view.fetches block members) (younger-rising block (map (fetch_at view.fetches) members)))
+    sym (cut-after view.geometry.ways block (fetch_at view.fetches n) (younger_after view.fetches block members)
+    (younger-rising block (map (fetch_at view.fetches) members)))
 
 -- a younger set is small where it is not cut off
 pub small-cut : (ways : ℕ) (younger : Option (List ℕ)) → is_small ways younger ≡ is_some (cut ways younger)
 small-cut ways None = refl
-small-cut ways (Some set) = elim (cases_Bool (ltb (length set) ways)) [ inl small ↦ rw small refl | inr large ↦ rw large refl ]
+small-cut ways (Some set) = elim (cases_Bool (ltb (length set) ways))
+    [ inl small ↦ rw small refl | inr large ↦ rw large refl ]

@@ -18,15 +18,18 @@ cut-present ways other set rising there small =
 -- a new number makes the set longer by one
 pub cut-longer : (ways other : ℕ) (set : List ℕ) → (Contains set other → ⊥) → length set + 1 < ways
     → Some (with_number other set) ≡ cut ways (Some (with_number other set))
-cut-longer ways other set new small = sym (cut-small ways (with_number other set) (omega (arith, length-with_number other set new)))
+cut-longer ways other set new small =
+    sym (cut-small ways (with_number other set) (omega (arith, length-with_number other set new)))
 
 -- perhaps too long
 pub cut-too_long : (ways other : ℕ) (set : List ℕ) → (Contains set other → ⊥) → ways ≤ length set + 1
     → None ≡ cut ways (Some (with_number other set))
-cut-too_long ways other set new large = sym (cut-large ways (with_number other set) (omega (arith, length-with_number other set new)))
+cut-too_long ways other set new large =
+    sym (cut-large ways (with_number other set) (omega (arith, length-with_number other set new)))
 
 -- what is in the set, or is the one more, is in both together
-pub within_more : (numbers others : List ℕ) (more : Option ℕ) → ((x : ℕ) → Contains numbers x → Contains others x ⊎ (more ≡ Some x))
+pub within_more : (numbers others : List ℕ) (more : Option ℕ)
+    → ((x : ℕ) → Contains numbers x → Contains others x ⊎ (more ≡ Some x))
     → IsBelow (Some numbers) (Some (with_more more others))
 within_more numbers others None all = λ x there. elim (all x there) [ inl old ↦ old | inr is ↦ absurd (cc) ]
 within_more numbers others (Some one) all = λ x there. elim (all x there) [
@@ -35,7 +38,8 @@ within_more numbers others (Some one) all = λ x there. elim (all x there) [
 ]
 
 -- the set alone
-pub within_alone : (numbers others : List ℕ) → ((x : ℕ) → Contains numbers x → Contains others x ⊎ (None ≡ Some x)) → IsBelow (Some numbers) (Some others)
+pub within_alone : (numbers others : List ℕ) → ((x : ℕ) → Contains numbers x → Contains others x ⊎ (None ≡ Some x))
+    → IsBelow (Some numbers) (Some others)
 within_alone numbers others all = λ x there. elim (all x there) [ inl old ↦ old | inr is ↦ absurd (cc) ]
 
 -- the set is below itself with one more number
@@ -44,26 +48,31 @@ below_more set None = λ x there. there
 below_more set (Some one) = λ x there. (Contains-with_number one set x).1 (inl there)
 
 -- with one more number that is there, the set is still below
-pub more_within : (set larger : List ℕ) (one : ℕ) → Contains larger one → IsBelow (Some set) (Some larger) → IsBelow (Some (with_number one set)) (Some larger)
+pub more_within : (set larger : List ℕ) (one : ℕ) → Contains larger one → IsBelow (Some set) (Some larger)
+    → IsBelow (Some (with_number one set)) (Some larger)
 more_within set larger one has within = λ x there. elim ((Contains-with_number one set x).0 there) [
   | inl old ↦ within x old
   | inr is ↦ subst (Contains larger) (sym is) has
 ]
 
 -- what is reached with a set of the table is above that set
-pub below-same : (sets : List (List ℕ)) (younger : Option ℕ) (reach : Option Reach) (place : ℕ) (r : Reach) → younger ≡ Some place → reach ≡ Some r → place ≡ r.place
+pub below-same : (sets : List (List ℕ)) (younger : Option ℕ) (reach : Option Reach) (place : ℕ) (r : Reach)
+    → younger ≡ Some place → reach ≡ Some r → place ≡ r.place
     → IsBelow (set_at sets younger) (reached_set sets reach)
 below-same sets younger reach place r younger_is reach_is same =
     let at : set_at sets younger ≡ Some (get_or sets r.place []) = ap (set_at sets) (younger_is ∙ ap Some same) in
     subst (IsBelow (set_at sets younger)) (sym (ap (reached_set sets) reach_is))
-    (subst (λ (o : Option (List ℕ)). IsBelow o (Some (with_more r.more (get_or sets r.place [])))) (sym at) (below_more (get_or sets r.place []) r.more))
+    (subst (λ (o : Option (List ℕ)). IsBelow o (Some (with_more r.more (get_or sets r.place [])))) (sym at)
+    (below_more (get_or sets r.place []) r.more))
 
 -- with a number that the set has, the set is still above
-pub above-more : (sets : List (List ℕ)) (younger : Option ℕ) (reach : Option Reach) (place : ℕ) (r : Reach) (number : ℕ) → younger ≡ Some place → reach ≡ Some r → r.more ≡ Some number
+pub above-more : (sets : List (List ℕ)) (younger : Option ℕ) (reach : Option Reach) (place : ℕ) (r : Reach) (number : ℕ)
+    → younger ≡ Some place → reach ≡ Some r → r.more ≡ Some number
     → Contains (get_or sets place []) number → IsBelow (Some (get_or sets r.place [])) (Some (get_or sets place []))
     → IsBelow (reached_set sets reach) (set_at sets younger)
 above-more sets younger reach place r number younger_is reach_is more_is has within =
     let at : reached_set sets reach ≡ Some (with_number number (get_or sets r.place [])) =
     ap (reached_set sets) reach_is ∙ ap (λ more. Some (with_more more (get_or sets r.place []))) more_is in
     subst (IsBelow (reached_set sets reach)) (sym (ap (set_at sets) younger_is))
-    (subst (λ (o : Option (List ℕ)). IsBelow o (Some (get_or sets place []))) (sym at) (more_within (get_or sets r.place []) (get_or sets place []) number has within))
+    (subst (λ (o : Option (List ℕ)). IsBelow o (Some (get_or sets place []))) (sym at)
+    (more_within (get_or sets r.place []) (get_or sets place []) number has within))

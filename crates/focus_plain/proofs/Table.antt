@@ -11,13 +11,17 @@ use Rattle.focus_plain.specs.Entries.{with_more, set_at, reached_set, IsPlace, I
 use Rattle.focus_plain.specs.Search.{IsLonger, Grows, AreRising}
 
 -- a set with a new number is the list with it
-pub longer-value : {E : Type 0} (result : Result (List ℕ) E) (number : ℕ) (set : List ℕ) → IsStrictlyIncreasing set → IfOk result (λ s. IsStrictlyIncreasing s)
-    → IfOk result (λ s. (y : ℕ) → Contains s y ↔ (Contains set y ⊎ (y ≡ number))) → IfOk result (λ s. s ≡ with_number number set)
-longer-value (Ok s) number set rising longer_rising members = with_number_from_members number set s rising longer_rising members
+pub longer-value : {E : Type 0} (result : Result (List ℕ) E) (number : ℕ) (set : List ℕ) → IsStrictlyIncreasing set
+    → IfOk result (λ s. IsStrictlyIncreasing s)
+    → IfOk result (λ s. (y : ℕ) → Contains s y ↔ (Contains set y ⊎ (y ≡ number)))
+    → IfOk result (λ s. s ≡ with_number number set)
+longer-value (Ok s) number set rising longer_rising members =
+    with_number_from_members number set s rising longer_rising members
 longer-value (Err e) number set rising longer_rising members = search rules
 
 -- the new set is what was reached
-pub keeps-value : (sets new : List (List ℕ)) (reached : Option Reach) (r : Reach) (number kept : ℕ) (longer : List ℕ) → reached ≡ Some r → r.more ≡ Some number
+pub keeps-value : (sets new : List (List ℕ)) (reached : Option Reach) (r : Reach) (number kept : ℕ) (longer : List ℕ)
+    → reached ≡ Some r → r.more ≡ Some number
     → longer ≡ with_number number (get_or sets r.place []) → new ≡ sets ++ longer ∷ [] → length sets ≡ kept
     → set_at new (Some kept) ≡ reached_set sets reached
 keeps-value sets new reached r number kept longer reached_is more_is longer_is new_is last =
@@ -26,11 +30,13 @@ keeps-value sets new reached r number kept longer reached_is more_is longer_is n
     ∙ sym (ap (reached_set sets) reached_is ∙ ap (λ more. Some (with_more more (get_or sets r.place []))) more_is)
 
 -- all sets rise
-pub rising-more : (sets new : List (List ℕ)) (longer : List ℕ) → AreRising sets → IsStrictlyIncreasing longer → new ≡ sets ++ longer ∷ [] → AreRising new
+pub rising-more : (sets new : List (List ℕ)) (longer : List ℕ) → AreRising sets → IsStrictlyIncreasing longer
+    → new ≡ sets ++ longer ∷ [] → AreRising new
 rising-more sets new longer rising longer_rising new_is place inside =
     let long : length new ≡ length sets + 1 = ap length new_is ∙ length_push sets longer in
     let P : List ℕ → Type 0 = λ s. IsStrictlyIncreasing s in
-    subst (λ (s : List (List ℕ)). IsStrictlyIncreasing (get_or s place [])) (sym new_is) (elim (cases_eq (length sets) place) [
+    subst (λ (s : List (List ℕ)). IsStrictlyIncreasing (get_or s place [])) (sym new_is)
+    (elim (cases_eq (length sets) place) [
       | inl last ↦ subst P (sym (get_or_push sets longer [] place last)) longer_rising
       | inr other ↦
           let old : place < length sets = omega arith in
@@ -38,21 +44,26 @@ rising-more sets new longer rising longer_rising new_is place inside =
     ])
 
 -- what the table gave it gives still
-pub set_at-longer : (sets new : List (List ℕ)) (place : Option ℕ) → IsLonger sets new → IsPlace sets place → set_at new place ≡ set_at sets place
+pub set_at-longer : (sets new : List (List ℕ)) (place : Option ℕ) → IsLonger sets new → IsPlace sets place
+    → set_at new place ≡ set_at sets place
 set_at-longer sets new None longer inside = refl
 set_at-longer sets new (Some place) longer inside =
     ap Some (ap (λ (s : List (List ℕ)). get_or s place []) longer.1 ∙ get_or_append_left sets longer.0 [] place inside)
 
 -- and what is reached
-pub reached-longer : (sets new : List (List ℕ)) (reach : Option Reach) → IsLonger sets new → IsReachable sets reach → reached_set new reach ≡ reached_set sets reach
+pub reached-longer : (sets new : List (List ℕ)) (reach : Option Reach) → IsLonger sets new → IsReachable sets reach
+    → reached_set new reach ≡ reached_set sets reach
 reached-longer sets new None longer inside = refl
 reached-longer sets new (Some reach) longer inside =
-    ap (λ (s : List ℕ). Some (with_more reach.more s)) (ap (λ (s : List (List ℕ)). get_or s reach.place []) longer.1 ∙ get_or_append_left sets longer.0 [] reach.place inside)
+    ap (λ (s : List ℕ). Some (with_more reach.more s)) (ap (λ (s : List (List ℕ)). get_or s reach.place []) longer.1
+    ∙ get_or_append_left sets longer.0 [] reach.place inside)
 
 -- places stay places
-pub place-longer : (sets new : List (List ℕ)) (place : Option ℕ) → IsLonger sets new → IsPlace sets place → IsPlace new place
+pub place-longer : (sets new : List (List ℕ)) (place : Option ℕ) → IsLonger sets new → IsPlace sets place
+    → IsPlace new place
 place-longer sets new None longer inside = tt
-place-longer sets new (Some place) longer inside = omega (arith, inside, ap length longer.1, length-append sets longer.0)
+place-longer sets new (Some place) longer inside =
+    omega (arith, inside, ap length longer.1, length-append sets longer.0)
 
 -- a table that grows is longer
 pub longer-grows : {X : Type 0} (xs ys : List X) → Grows xs ys → IsLonger xs ys

@@ -84,7 +84,8 @@ is_in-before (suc n) block (other ∷ blocks) = elim (cases_eq other block) [
   | inl same ↦
       let at = eq-eqb other block same in
       let back = eq-eqb block other (sym same) in
-      simp back (sym (lt-ltb 0 (suc n) (omega arith)) ∙ ap (λ o. is_small (suc n) o) (sym (before-first block other blocks at)))
+      simp back (sym (lt-ltb 0 (suc n) (omega arith)) ∙ ap (λ o. is_small (suc n) o)
+      (sym (before-first block other blocks at)))
   | inr apart ↦
       let unlike = ne_eqb other block apart in
       let back = ne_eqb block other (λ same. apart (sym same)) in

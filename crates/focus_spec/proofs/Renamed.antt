@@ -35,17 +35,20 @@ map-with_number : (blocks : List ℕ) (x : ℕ) (set : List ℕ) → IsStrictlyI
 map-with_number blocks x [] up inside places = refl
 map-with_number blocks x (z ∷ zs) up inside places =
     let z_inside = places z ((Contains-front z zs z).1 (inr refl)) in
-    let behind = λ (local : ℕ) (there : Contains zs local). places local (Contains-append_right (z ∷ []) zs local there) in
+    let behind = λ (local : ℕ) (there : Contains zs local). places local
+    (Contains-append_right (z ∷ []) zs local there) in
     elim (cases_order x z) [
       | inl same ↦
           with_number-first (named blocks x) (named blocks z) (map (named blocks) zs) (ap (named blocks) same)
           ∙ ap (map (named blocks)) (sym (with_number-first x z zs same))
       | inr other ↦ elim other [
         | inl below ↦
-            with_number-below (named blocks x) (named blocks z) (map (named blocks) zs) (named-lt blocks x z up below z_inside)
+            with_number-below (named blocks x) (named blocks z) (map (named blocks) zs)
+            (named-lt blocks x z up below z_inside)
             ∙ ap (map (named blocks)) (sym (with_number-below x z zs below))
         | inr above ↦
-            with_number-above (named blocks x) (named blocks z) (map (named blocks) zs) (named-lt blocks z x up above inside)
+            with_number-above (named blocks x) (named blocks z) (map (named blocks) zs)
+            (named-lt blocks z x up above inside)
             ∙ ap (λ s. named blocks z ∷ s) (map-with_number blocks x zs up inside behind)
             ∙ ap (map (named blocks)) (sym (with_number-above x z zs above))
       ]
@@ -75,10 +78,11 @@ AreAllPlaces blocks (Some set) = ArePlaces blocks set
 places-with_number : (blocks : List ℕ) (x : ℕ) (set : Option (List ℕ)) → x < length blocks → AreAllPlaces blocks set
     → AreAllPlaces blocks (option_map (with_number x) set)
 places-with_number blocks x None inside places = tt
-places-with_number blocks x (Some set) inside places = λ local there. elim ((Contains-with_number x set local).0 there) [
-  | inl old ↦ places local old
-  | inr is ↦ omega (arith, is)
-]
+places-with_number blocks x (Some set) inside places =
+    λ local there. elim ((Contains-with_number x set local).0 there) [
+      | inl old ↦ places local old
+      | inr is ↦ omega (arith, is)
+    ]
 
 -- so it is after one more fetch
 places-after : (blocks : List ℕ) (block other : ℕ) (set : Option (List ℕ)) → other < length blocks
@@ -127,7 +131,8 @@ after-named blocks block other set up inside other_inside places =
           after-own (named blocks block) (named blocks other) known (ap (named blocks) same)
           ∙ ap (option_map (map (named blocks))) (sym (after-own block other set same))
       | inr apart ↦
-          after-other (named blocks block) (named blocks other) known (named-apart blocks other block up other_inside inside apart)
+          after-other (named blocks block) (named blocks other) known
+          (named-apart blocks other block up other_inside inside apart)
           ∙ map-option blocks other set up other_inside places
           ∙ ap (option_map (map (named blocks))) (sym (after-other block other set apart))
     ]

@@ -91,6 +91,7 @@ younger-none block (Some x ∷ earlier) =
           | inr same ↦ differ (sym (same_some block x same))
         ],
         λ absent. after-other block x known differ
-            ∙ ap (option_map (with_number x)) (rest.1 (λ there. absent (Contains-append_right (Some x ∷ []) earlier (Some block) there))),
+            ∙ ap (option_map (with_number x)) (rest.1 (λ there. absent
+            (Contains-append_right (Some x ∷ []) earlier (Some block) there))),
       )
     ]

@@ -70,7 +70,8 @@ is_in-with_number x y (z ∷ zs) = elim (cases_order x z) [
   | inl same ↦ let e = with_number-first x z zs same in grind (arith, nat_tests)
   | inr other ↦ elim other [
     | inl below ↦ rw (with_number-below x z zs below) refl
-    | inr above ↦ let e = with_number-above x z zs above in let more = is_in-with_number x y zs in grind (arith, nat_tests)
+    | inr above ↦ let e = with_number-above x z zs above in let more =
+        is_in-with_number x y zs in grind (arith, nat_tests)
   ]
 ]
 
@@ -93,11 +94,13 @@ long-with_number other set blocks same =
       | inl old ↦
           let there = there_from_test set other (same.members other ∙ old) in
           let unchanged = ap length (with_number-present other set same.rising there) in
-          let left : length (others blocks other) + 1 ≡ length blocks = ap (λ b. length (others blocks other) + cond b 1 0) (sym old) ∙ rest in
+          let left : length (others blocks other) + 1 ≡ length blocks =
+          ap (λ b. length (others blocks other) + cond b 1 0) (sym old) ∙ rest in
           omega (arith, unchanged, left, same.long)
       | inr new ↦
           let longer = length-with_number other set (absent_from_test set other (same.members other ∙ new)) in
-          let left : length (others blocks other) + 0 ≡ length blocks = ap (λ b. length (others blocks other) + cond b 1 0) (sym new) ∙ rest in
+          let left : length (others blocks other) + 0 ≡ length blocks =
+          ap (λ b. length (others blocks other) + cond b 1 0) (sym new) ∙ rest in
           omega (arith, longer, left, same.long)
     ]
 
@@ -108,7 +111,13 @@ HasSame-with other set blocks same = record {
   rising = rising-with_number other set same.rising;
   distinct = fetched-distinct other blocks same.distinct;
   long = long-with_number other set blocks same;
-  members = λ block. grind (arith, nat_tests, is_in-with_number other block set, is_in-others other block blocks, same.members block);
+  members = λ block. grind (
+    arith,
+    nat_tests,
+    is_in-with_number other block set,
+    is_in-others other block blocks,
+    same.members block,
+  );
 }
 
 -- neither is there, or both are and have the same numbers
@@ -120,7 +129,8 @@ AreSame (Some set) (Some blocks) = HasSame set blocks
 
 -- the younger set after the fetch of another block, and the blocks that stand before then
 AreSame-with : (other : ℕ) (set blocks : Option (List ℕ)) → AreSame set blocks
-    → AreSame (option_map (with_number other) set) (option_map (λ s. other ∷ s) (option_map (λ s. others s other) blocks))
+    → AreSame (option_map (with_number other) set) (option_map (λ s. other ∷ s)
+    (option_map (λ s. others s other) blocks))
 AreSame-with other None None same = tt
 AreSame-with other None (Some blocks) same = same
 AreSame-with other (Some set) None same = same
@@ -172,4 +182,5 @@ pub rising-younger : (block : ℕ) (fetches : List (Option ℕ)) (set : List ℕ
     → IsStrictlyIncreasing set
 rising-younger block fetches set is =
     let standing = before block (stack fetches) in
-    rising_from_same set standing (subst (λ (o : Option (List ℕ)). AreSame o standing) is (younger-before block fetches))
+    rising_from_same set standing (subst (λ (o : Option (List ℕ)). AreSame o standing) is
+    (younger-before block fetches))

@@ -80,11 +80,13 @@ rising-with_number x [] up = rising-one x
 rising-with_number x (z ∷ zs) up = elim (cases_order x z) [
   | inl same ↦ subst (λ (s : List ℕ). IsStrictlyIncreasing s) (sym (with_number-first x z zs same)) up
   | inr other ↦ elim other [
-    | inl below ↦ subst (λ (s : List ℕ). IsStrictlyIncreasing s) (sym (with_number-below x z zs below)) (rising-cons x (z ∷ zs) (λ _. below) up)
+    | inl below ↦ subst (λ (s : List ℕ). IsStrictlyIncreasing s) (sym (with_number-below x z zs below))
+        (rising-cons x (z ∷ zs) (λ _. below) up)
     | inr above ↦
         let first = first-above z x zs above (first_below z zs up) in
         let behind = rising-with_number x zs (rising-tail z zs up) in
-        subst (λ (s : List ℕ). IsStrictlyIncreasing s) (sym (with_number-above x z zs above)) (rising-cons z (with_number x zs) (λ _. first) behind)
+        subst (λ (s : List ℕ). IsStrictlyIncreasing s) (sym (with_number-above x z zs above))
+        (rising-cons z (with_number x zs) (λ _. first) behind)
   ]
 ]
 

@@ -14,7 +14,8 @@ path_hits nodes g path = ends_in_hit g (map (address_of nodes) path)
 
 -- each path that ends in the node hits, or each misses
 abbrev pub AllEnd : List Node → Geometry → ℕ → Bool → Type 0
-AllEnd nodes g n hits = (earlier : List ℕ) → IsPath (graph_step nodes) 0 (n ∷ earlier) → path_hits nodes g (n ∷ earlier) ≡ hits
+AllEnd nodes g n hits = (earlier : List ℕ) → IsPath (graph_step nodes) 0 (n ∷ earlier) → path_hits nodes g (n ∷ earlier)
+    ≡ hits
 
 -- the way names a path that ends in the node, and that path hits, or misses
 pub record NamesEnd (nodes : List Node) (g : Geometry) (n : ℕ) (way : Way) (hits : Bool) : Type 0 where

@@ -27,10 +27,11 @@ MayBeLarge nodes fetches ways block n =
     (younger : Option (List ℕ)) × Leaves nodes fetches block n younger × IsFalse (is_small ways younger)
 
 -- a least younger set: it has fewer than `ways` blocks, and no path leaves another one that is included in it
-pub record IsLeastYounger (nodes : List Node) (fetches : List (Option ℕ)) (ways block n : ℕ) (set : List ℕ) : Type 0 where
-  pub left : Leaves nodes fetches block n (Some set)
-  pub small : length set < ways
-  pub least : (other : List ℕ) → Leaves nodes fetches block n (Some other) → IsSubset other set → other ≡ set
+pub record IsLeastYounger (nodes : List Node) (fetches : List (Option ℕ)) (ways block n : ℕ) (set : List ℕ) : Type 0
+  where
+    pub left : Leaves nodes fetches block n (Some set)
+    pub small : length set < ways
+    pub least : (other : List ℕ) → Leaves nodes fetches block n (Some other) → IsSubset other set → other ≡ set
 
 -- a most younger set: no path leaves another one that includes it
 pub record IsMostYounger (nodes : List Node) (fetches : List (Option ℕ)) (block n : ℕ) (set : List ℕ) : Type 0 where
@@ -45,4 +46,5 @@ AreLeast nodes fetches ways block n sets = (s : List ℕ) → Contains sets s �
 abbrev pub AreMost : List Node → List (Option ℕ) → ℕ → ℕ → ℕ → Option (List (List ℕ)) → Type 0
 AreMost nodes fetches ways block n None = MayBeLarge nodes fetches ways block n
 AreMost nodes fetches ways block n (Some sets) =
-    (MayBeLarge nodes fetches ways block n → ⊥) × ((s : List ℕ) → Contains sets s ↔ IsMostYounger nodes fetches block n s)
+    (MayBeLarge nodes fetches ways block n → ⊥) × ((s : List ℕ) → Contains sets s ↔ IsMostYounger nodes fetches block n
+    s)

@@ -40,8 +40,10 @@ pub frames_cmp-append : (xs ys us vs : List Frame) → length xs ≡ length ys
     → frames_cmp (xs ++ us) (ys ++ vs) ≡ ordering_then (frames_cmp xs ys) (frames_cmp us vs)
 frames_cmp-append xs ys us vs same =
     ap (λ numbers. slice_cmp nat_cmp numbers (flat_map frame_numbers (ys ++ vs))) (flat_map-append frame_numbers xs us)
-    ∙ ap (slice_cmp nat_cmp (flat_map frame_numbers xs ++ flat_map frame_numbers us)) (flat_map-append frame_numbers ys vs)
-    ∙ slice_cmp-append (flat_map frame_numbers xs) (flat_map frame_numbers ys) (flat_map frame_numbers us) (flat_map frame_numbers vs) (omega (arith, length-numbers xs, length-numbers ys))
+    ∙ ap (slice_cmp nat_cmp (flat_map frame_numbers xs ++ flat_map frame_numbers us))
+    (flat_map-append frame_numbers ys vs)
+    ∙ slice_cmp-append (flat_map frame_numbers xs) (flat_map frame_numbers ys) (flat_map frame_numbers us)
+    (flat_map frame_numbers vs) (omega (arith, length-numbers xs, length-numbers ys))
 
 -- a list of frames is as great as itself
 pub frames_cmp_itself : (frames : List Frame) → frames_cmp frames frames ≡ Equal

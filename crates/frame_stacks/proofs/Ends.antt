@@ -23,4 +23,5 @@ pub any_push : (test : Frame → Bool) (frames : List Frame) (frame : Frame)
     → list_any test (frames ++ frame ∷ []) ≡ (list_any test frames || test frame)
 any_push test [] frame = or-false (test frame)
 any_push test (first ∷ frames) frame =
-    ap (λ b. test first || b) (any_push test frames frame) ∙ sym (or_assoc (test first) (list_any test frames) (test frame))
+    ap (λ b. test first || b) (any_push test frames frame)
+    ∙ sym (or_assoc (test first) (list_any test frames) (test frame))

@@ -21,7 +21,8 @@ abbrev cell_of : ℕ → Frame → StackCell
 cell_of below frame = record { below = below; frame = frame }
 
 -- a cell's numbers are its own
-cell_from_numbers : (cell other : StackCell) → cell.below ∷ frame_numbers cell.frame ≡ other.below ∷ frame_numbers other.frame → cell ≡ other
+cell_from_numbers : (cell other : StackCell)
+    → cell.below ∷ frame_numbers cell.frame ≡ other.below ∷ frame_numbers other.frame → cell ≡ other
 cell_from_numbers cell other same =
     let below : cell.below ≡ other.below = cc in
     let frame : cell.frame ≡ other.frame = frame_from_numbers cell.frame other.frame cc in
@@ -37,24 +38,28 @@ other_by cell other old new given Equal is same = inl (sym (cell_from_numbers ce
 
 -- a map's entry at another cell's numbers is as it was
 pub other_cell : {X : Type 0} (cell other : StackCell) (old new given : X)
-    → new ≡ cond (is_eq (slice_cmp nat_cmp (cell.below ∷ frame_numbers cell.frame) (other.below ∷ frame_numbers other.frame))) given old
+    → new ≡ cond (is_eq (slice_cmp nat_cmp (cell.below ∷ frame_numbers cell.frame)
+    (other.below ∷ frame_numbers other.frame))) given old
     → (other ≡ cell) ⊎ (new ≡ old)
 other_cell cell other old new given same = other_by cell other old new given _ refl same
 
 -- a cell among more is one of the former, or the new one
-slice_get-push : (cells : List StackCell) (cell : StackCell) (k : ℕ) (c : StackCell) → slice_get (cells ++ cell ∷ []) k ≡ Some c
+slice_get-push : (cells : List StackCell) (cell : StackCell) (k : ℕ) (c : StackCell)
+    → slice_get (cells ++ cell ∷ []) k ≡ Some c
     → (slice_get cells k ≡ Some c) ⊎ ((k ≡ length cells) × (cell ≡ c))
 slice_get-push [] cell zero c here = inr (refl, cc)
 slice_get-push [] cell (suc k) c here = absurd cc
 slice_get-push (first ∷ cells) cell zero c here = inl here
 slice_get-push (first ∷ cells) cell (suc k) c here =
-    elim (slice_get-push cells cell k c here) as (λ _. (slice_get cells k ≡ Some c) ⊎ ((suc k ≡ suc (length cells)) × (cell ≡ c))) [
+    elim (slice_get-push cells cell k c here) as (λ _. (slice_get cells k ≡ Some c)
+    ⊎ ((suc k ≡ suc (length cells)) × (cell ≡ c))) [
       | inl at ↦ inl at
       | inr last ↦ inr (ap suc last.0, last.1)
     ]
 
 -- the new cell is the last
-slice_get-push_last : (cells : List StackCell) (cell : StackCell) → slice_get (cells ++ cell ∷ []) (length cells) ≡ Some cell
+slice_get-push_last : (cells : List StackCell) (cell : StackCell)
+    → slice_get (cells ++ cell ∷ []) (length cells) ≡ Some cell
 slice_get-push_last [] cell = refl
 slice_get-push_last (first ∷ cells) cell = slice_get-push_last cells cell
 
@@ -106,9 +111,13 @@ alone_kept cells numbers cell kept none below s t (inl low) (inl high) same =
     kept.lawful.alone s t low high (sym (frames_of-push cells cell s low) ∙ same ∙ frames_of-push cells cell t high)
 alone_kept cells numbers cell kept none below s t (inr last) (inr end) same = last ∙ sym end
 alone_kept cells numbers cell kept none below s t (inr last) (inl high) same =
-    absurd (is_new cells numbers cell t kept none below high (sym (ap (frames_of (cells ++ cell ∷ [])) last ∙ frames_of-push_last cells cell below) ∙ same ∙ frames_of-push cells cell t high))
+    absurd (is_new cells numbers cell t kept none below high
+    (sym (ap (frames_of (cells ++ cell ∷ [])) last ∙ frames_of-push_last cells cell below) ∙ same ∙ frames_of-push
+    cells cell t high))
 alone_kept cells numbers cell kept none below s t (inl low) (inr end) same =
-    absurd (is_new cells numbers cell s kept none below low (sym (ap (frames_of (cells ++ cell ∷ [])) end ∙ frames_of-push_last cells cell below) ∙ sym same ∙ frames_of-push cells cell s low))
+    absurd (is_new cells numbers cell s kept none below low
+    (sym (ap (frames_of (cells ++ cell ∷ [])) end ∙ frames_of-push_last cells cell below) ∙ sym same
+    ∙ frames_of-push cells cell s low))
 
 -- cells stay lawful when a new one is put after them
 cells_kept : (cells : List StackCell) (numbers : Numbers) (cell : StackCell) → AreNumbered cells numbers
@@ -117,7 +126,8 @@ cells_kept cells numbers cell kept none below = record {
   below = below_kept cells cell kept.lawful below;
   alone = λ s t low high same.
       let long = length_push cells cell in
-      alone_kept cells numbers cell kept none below s t (last_or_before (length cells) s (omega arith)) (last_or_before (length cells) t (omega arith)) same;
+      alone_kept cells numbers cell kept none below s t (last_or_before (length cells) s (omega arith))
+      (last_or_before (length cells) t (omega arith)) same;
 }
 
 -- each cell's number is still that of its stack
@@ -170,7 +180,8 @@ numbered_push cells old new cell kept none below gives = record {
 }
 
 -- another index in which each cell has the same number
-pub numbered_same : (cells : List StackCell) (old new : Numbers) → AreNumbered cells old → IsSame old new → AreNumbered cells new
+pub numbered_same : (cells : List StackCell) (old new : Numbers) → AreNumbered cells old → IsSame old new
+    → AreNumbered cells new
 numbered_same cells old new kept same = record {
   lawful = kept.lawful;
   indexed = record {
@@ -193,11 +204,15 @@ numbered_empty numbers none = record {
 }
 
 -- what a known number stands for
-pub known_number : (cells : List StackCell) (numbers : Numbers) (cell : StackCell) (number : ℕ) → AreNumbered cells numbers
+pub known_number : (cells : List StackCell) (numbers : Numbers) (cell : StackCell) (number : ℕ)
+    → AreNumbered cells numbers
     → number_of numbers cell ≡ Some number
     → (number ≤ length cells) × (frames_of cells number ≡ frames_of cells cell.below ++ cell.frame ∷ [])
 known_number cells numbers cell number kept known =
     let found = kept.indexed.found cell number known in
     let inside = slice_get_within cells (number - 1) cell found.1 in
-    let place : number ≡ number - 1 + 1 = omega (arith, found.0) in
-    (omega arith, ap (frames_of cells) place ∙ frames_of-cell cells (number - 1) cell found.1 (kept.lawful.below _ _ found.1))
+    let place : number ≡ number - 1 + 1 = omega (arith, found.0) in (
+      omega arith,
+      ap (frames_of cells) place ∙ frames_of-cell cells (number - 1) cell found.1
+          (kept.lawful.below _ _ found.1),
+    )

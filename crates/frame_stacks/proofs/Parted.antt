@@ -43,7 +43,8 @@ zero_or_more : (n : ℕ) → (n ≡ 0) ⊎ (0 < n)
 zero_or_more n = grind arith
 
 -- one step further down
-pub goes_further : (cells : List StackCell) (high low next : ℕ) (cell : StackCell) → GoesDown cells high low next → 0 < low
+pub goes_further : (cells : List StackCell) (high low next : ℕ) (cell : StackCell) → GoesDown cells high low next
+    → 0 < low
     → cell.below < low → frames_of cells low ≡ frames_of cells cell.below ++ cell.frame ∷ []
     → GoesDown cells high cell.below low
 goes_further cells high low next cell down some below made = record {
@@ -81,12 +82,14 @@ nothing_above : (cells : List StackCell) (high low : ℕ) → high ≡ low → f
 nothing_above cells high low same = ap (frames_of cells) same ∙ sym (append-nil (frames_of cells low))
 
 -- an order by two frames that may be there, once they are known
-by_tops : (x y u v : Option Frame) (order : Ordering) → x ≡ u → y ≡ v → order ≡ option_cmp frame_cmp u v → option_cmp frame_cmp x y ≡ order
+by_tops : (x y u v : Option Frame) (order : Ordering) → x ≡ u → y ≡ v → order ≡ option_cmp frame_cmp u v
+    → option_cmp frame_cmp x y ≡ order
 by_tops x y u v order first second decides =
     ap (λ top. option_cmp frame_cmp top y) first ∙ ap (option_cmp frame_cmp u) second ∙ sym decides
 
 -- different frames right above decide, whatever is above them
-tops_decide : (cells : List StackCell) (a b common one other : ℕ) (step : HasNext cells a common one) (turn : HasNext cells b common other)
+tops_decide : (cells : List StackCell) (a b common one other : ℕ) (step : HasNext cells a common one)
+    (turn : HasNext cells b common other)
     → (frames_of cells one ≡ frames_of cells other → ⊥)
     → frames_cmp (step.top ∷ step.above) (turn.top ∷ turn.above) ≡ frame_cmp step.top turn.top
 tops_decide cells a b common one other step turn apart =
@@ -98,29 +101,37 @@ tops_decide cells a b common one other step turn apart =
 -- the order, by whether either stack is below the other
 order_by : (cells : List StackCell) (a b one other : ℕ) → Part cells a b one other
     → (one ≡ 0) ⊎ (0 < one) → (other ≡ 0) ⊎ (0 < other)
-    → option_cmp frame_cmp (newest (frames_of cells one)) (newest (frames_of cells other)) ≡ frames_cmp (frames_of cells a) (frames_of cells b)
+    → option_cmp frame_cmp (newest (frames_of cells one)) (newest (frames_of cells other))
+    ≡ frames_cmp (frames_of cells a) (frames_of cells b)
 order_by cells a b one other parted (inl none) (inl neither) =
     let frames = frames_of cells parted.common in
     let first = nothing_above cells a parted.common (parted.first.arrived none) in
     let second = nothing_above cells b parted.common (parted.second.arrived neither) in
-    by_tops _ _ None None _ (top_none cells one none) (top_none cells other neither) (above_cmp frames _ _ [] [] first second)
+    by_tops _ _ None None _ (top_none cells one none) (top_none cells other neither)
+    (above_cmp frames _ _ [] [] first second)
 order_by cells a b one other parted (inl none) (inr some) =
     let frames = frames_of cells parted.common in
     let first = nothing_above cells a parted.common (parted.first.arrived none) in
     let turn = parted.second.stepped some in
-    by_tops _ _ None (Some turn.top) _ (top_none cells one none) (top_some cells b parted.common other turn) (above_cmp frames _ _ [] (turn.top ∷ turn.above) first turn.whole)
+    by_tops _ _ None (Some turn.top) _ (top_none cells one none) (top_some cells b parted.common other turn)
+    (above_cmp frames _ _ [] (turn.top ∷ turn.above) first turn.whole)
 order_by cells a b one other parted (inr some) (inl none) =
     let frames = frames_of cells parted.common in
     let step = parted.first.stepped some in
     let second = nothing_above cells b parted.common (parted.second.arrived none) in
-    by_tops _ _ (Some step.top) None _ (top_some cells a parted.common one step) (top_none cells other none) (above_cmp frames _ _ (step.top ∷ step.above) [] step.whole second)
+    by_tops _ _ (Some step.top) None _ (top_some cells a parted.common one step) (top_none cells other none)
+    (above_cmp frames _ _ (step.top ∷ step.above) [] step.whole second)
 order_by cells a b one other parted (inr some) (inr more) =
     let frames = frames_of cells parted.common in
     let step = parted.first.stepped some in
     let turn = parted.second.stepped more in
-    by_tops _ _ (Some step.top) (Some turn.top) _ (top_some cells a parted.common one step) (top_some cells b parted.common other turn) (above_cmp frames _ _ (step.top ∷ step.above) (turn.top ∷ turn.above) step.whole turn.whole ∙ tops_decide cells a b parted.common one other step turn (parted.apart some))
+    by_tops _ _ (Some step.top) (Some turn.top) _ (top_some cells a parted.common one step)
+    (top_some cells b parted.common other turn) (above_cmp frames _ _ (step.top ∷ step.above)
+    (turn.top ∷ turn.above) step.whole turn.whole
+    ∙ tops_decide cells a b parted.common one other step turn (parted.apart some))
 
 -- the newest frames there decide the order of the two stacks
 pub parted_order : (cells : List StackCell) (a b one other : ℕ) → Part cells a b one other
-    → option_cmp frame_cmp (newest (frames_of cells one)) (newest (frames_of cells other)) ≡ frames_cmp (frames_of cells a) (frames_of cells b)
+    → option_cmp frame_cmp (newest (frames_of cells one)) (newest (frames_of cells other))
+    ≡ frames_cmp (frames_of cells a) (frames_of cells b)
 parted_order cells a b one other parted = order_by cells a b one other parted (zero_or_more one) (zero_or_more other)

@@ -21,7 +21,8 @@ use Rattle.command_spec.specs.declared.settings.Ask.TheVariants.{Graph}
 use Rattle.icache_top.specs.GraphLines.{graph_line, graph_lines_from, graph_lines_of, graph_text_of}
 
 -- what a list has at a place is there
-pub slice_get_is : (nodes : List Node) (k : ℕ) (node : Node) → k < length nodes → slice_index_or nodes k node ≡ node → slice_get nodes k ≡ Some node
+pub slice_get_is : (nodes : List Node) (k : ℕ) (node : Node) → k < length nodes → slice_index_or nodes k node ≡ node
+    → slice_get nodes k ≡ Some node
 slice_get_is [] k node below is = absurd (omega arith)
 slice_get_is (e ∷ nodes) zero node below is = ap Some is
 slice_get_is (e ∷ nodes) (suc k) node below is = slice_get_is nodes k node (omega arith) is
@@ -34,7 +35,8 @@ pub record AreEdges (count : ℕ) (first second : Option ℕ) : Type 0 where
       ≡ map Some (map (numbered configurations) (option_to_list first ++ option_to_list second))
 
 -- the configuration with a number
-pub numbered_is : (configurations : List Configuration) (n : ℕ) → n < length configurations → slice_get configurations n ≡ Some (numbered configurations n)
+pub numbered_is : (configurations : List Configuration) (n : ℕ) → n < length configurations
+    → slice_get configurations n ≡ Some (numbered configurations n)
 numbered_is [] n below = absurd (omega arith)
 numbered_is (c ∷ configurations) zero below = refl
 numbered_is (c ∷ configurations) (suc n) below = numbered_is configurations n (omega arith)
@@ -63,7 +65,8 @@ edges_are count (Some first) (Some second) fit = record {
 }
 
 module _ (step : Step) (all : List Configuration) (nodes : List Node) where
-  line_is : (number : ℕ) (c : Configuration) (node : Node) → IsNodeOf step all c node → AreEdges (length all) node.first node.second
+  line_is : (number : ℕ) (c : Configuration) (node : Node) → IsNodeOf step all c node
+      → AreEdges (length all) node.first node.second
       → IsGraphLine step all number c (graph_line number c node)
   line_is number c node of edges = record {
     node = refl;
@@ -74,7 +77,8 @@ module _ (step : Step) (all : List Configuration) (nodes : List Node) where
     goes = (_, of.goes, edges.inside all refl);
   }
 
-  lines_from : (number : ℕ) (configurations : List Configuration) (ns : List Node) → AllZip (IsNodeOf step all) configurations ns
+  lines_from : (number : ℕ) (configurations : List Configuration) (ns : List Node)
+      → AllZip (IsNodeOf step all) configurations ns
       → ((node : Node) → Contains ns node → is_fit (length all) node ≡ true)
       → AreGraphLines step all number configurations (graph_lines_from number configurations ns)
   lines_from number [] [] zipped fit = tt
@@ -82,27 +86,32 @@ module _ (step : Step) (all : List Configuration) (nodes : List Node) where
   lines_from number (c ∷ configurations) [] zipped fit = absurd zipped
   lines_from number (c ∷ configurations) (node ∷ ns) zipped fit = (
     line_is number c node zipped.0 (edges_are (length all) node.first node.second (fit node (zero, omega arith, refl))),
-    lines_from (number + 1) configurations ns zipped.1 (λ other (k, below, is). fit other (suc k, omega (arith, below), is)),
+    lines_from (number + 1) configurations ns zipped.1 (λ other (k, below, is). fit other
+        (suc k, omega (arith, below), is)),
   )
 
 -- the lines of a graph of configurations
-pub graph_lines : (step : Step) (entry : ℕ) (configurations : List Configuration) (nodes : List Node) → IsGraphOf step entry configurations nodes
+pub graph_lines : (step : Step) (entry : ℕ) (configurations : List Configuration) (nodes : List Node)
+    → IsGraphOf step entry configurations nodes
     → AreGraphLines step configurations 0 configurations (graph_lines_from 0 configurations nodes)
 graph_lines step entry configurations nodes of =
     let long : length nodes ≡ length configurations = AllZip-long _ _ _ of.each in
     let P : ℕ → Type 0 = λ count. (node : Node) → Contains nodes node → is_fit count node ≡ true in
     lines_from step configurations nodes 0 configurations nodes of.each
-    (subst P long (λ node (k, below, is). fit_at nodes (length nodes) k node of.graph.fit (slice_get_is nodes k node below is)))
+    (subst P long (λ node (k, below, is). fit_at nodes (length nodes) k node of.graph.fit
+    (slice_get_is nodes k node below is)))
 
 -- the text of an accepted program's graph
 pub graph_text : (image : Image) (entry : ℕ) (expanded : Expansion)
-    → ((layers : List (List Configuration)) × IsAccepted (successors image entry) image entry layers × (expanded.configurations ≡ all_of layers))
+    → ((layers : List (List Configuration)) × IsAccepted (successors image entry) image entry layers
+    × (expanded.configurations ≡ all_of layers))
     → IsGraphOf (successors image entry) entry expanded.configurations expanded.nodes
     → IsAcceptedWith image entry (λ layers. IsTextFrom Graph image entry layers (graph_text_of expanded))
 graph_text image entry expanded (layers, accepted, all) of =
     let step = successors image entry in
     let lines = graph_lines_of expanded in
-    let P : List Configuration → Type 0 = λ configurations. AreGraphLines step configurations 0 configurations lines in (
+    let P : List Configuration → Type 0 =
+    λ configurations. AreGraphLines step configurations 0 configurations lines in (
       layers,
       accepted,
       (layers, accepted, (lines, subst P all (graph_lines step entry expanded.configurations expanded.nodes of), refl)),

@@ -25,17 +25,20 @@ line_at from zero (d ∷ configurations) (e ∷ nodes) c node has is =
     let here : from ≡ from + 0 = omega arith in
     let same : d ≡ c = cc has in
     let same' : e ≡ node = cc is in
-    ap (λ n. Some (graph_line n d e)) here ∙ ap (λ d. Some (graph_line (from + 0) d e)) same ∙ ap (λ e. Some (graph_line (from + 0) c e)) same'
+    ap (λ n. Some (graph_line n d e)) here ∙ ap (λ d. Some (graph_line (from + 0) d e)) same
+    ∙ ap (λ e. Some (graph_line (from + 0) c e)) same'
 line_at from (suc n) (d ∷ configurations) (e ∷ nodes) c node has is =
     let next : from + 1 + n ≡ from + suc n = omega arith in
     line_at (from + 1) n configurations nodes c node has is ∙ ap (λ n. Some (graph_line n c node)) next
 
-pub length-graph_lines : (from : ℕ) (configurations : List Configuration) (nodes : List Node) → length configurations ≡ length nodes
+pub length-graph_lines : (from : ℕ) (configurations : List Configuration) (nodes : List Node)
+    → length configurations ≡ length nodes
     → length (graph_lines_from from configurations nodes) ≡ length nodes
 length-graph_lines from [] [] same = refl
 length-graph_lines from [] (e ∷ nodes) same = absurd (omega (arith, same))
 length-graph_lines from (d ∷ configurations) [] same = absurd (omega (arith, same))
-length-graph_lines from (d ∷ configurations) (e ∷ nodes) same = ap suc (length-graph_lines (from + 1) configurations nodes (omega (arith, same)))
+length-graph_lines from (d ∷ configurations) (e ∷ nodes) same =
+    ap suc (length-graph_lines (from + 1) configurations nodes (omega (arith, same)))
 
 take_past : {A : Type 0} (xs : List A) (n : ℕ) → length xs ≤ n → take n xs ≡ xs
 take_past [] zero past = refl
@@ -59,7 +62,8 @@ text-take_more lines i line is =
     ∙ ap text_of (sym (take_more lines i line within))
 
 -- a prefix of the first lines' text is a prefix of the whole text
-pub SendsPrefix-take : (a b : Option (List ℕ)) (lines : List GraphLine) (n : ℕ) → SendsPrefix a b (text_of (take n lines)) → SendsPrefix a b (text_of lines)
+pub SendsPrefix-take : (a b : Option (List ℕ)) (lines : List GraphLine) (n : ℕ)
+    → SendsPrefix a b (text_of (take n lines)) → SendsPrefix a b (text_of lines)
 SendsPrefix-take a b lines n part =
     let joined : text_of (take n lines) ++ text_of (drop n lines) ≡ text_of lines =
     sym (flat_map-append graph_line_text (take n lines) (drop n lines)) ∙ ap text_of (take-append-drop n lines) in
@@ -75,18 +79,25 @@ pub line_is : (expanded : Expansion) (n at depth : ℕ) (back : Option ℕ) (nod
 line_is expanded n at depth back node inside long is at_is depth_is back_is =
     let c = numbered expanded.configurations n in
     let here : 0 + n ≡ n = omega arith in
-    line_at 0 n expanded.configurations expanded.nodes c node (numbered_is expanded.configurations n (omega (arith, inside, long))) is
+    line_at 0 n expanded.configurations expanded.nodes c node
+    (numbered_is expanded.configurations n (omega (arith, inside, long))) is
     ∙ ap (λ n. Some (graph_line n c node)) here
     ∙ rw (at_is, depth_is, back_is) refl
 
 -- as many lines as there are nodes are all
-pub take_all : (expanded : Expansion) (n : ℕ) → length expanded.configurations ≡ length expanded.nodes → length expanded.nodes ≤ n
+pub take_all : (expanded : Expansion) (n : ℕ) → length expanded.configurations ≡ length expanded.nodes
+    → length expanded.nodes ≤ n
     → take n (graph_lines_of expanded) ≡ graph_lines_of expanded
 take_all expanded n long past =
-    take_past (graph_lines_of expanded) n (omega (arith, length-graph_lines 0 expanded.configurations expanded.nodes long, past))
+    take_past (graph_lines_of expanded) n (omega (
+      arith,
+      length-graph_lines 0 expanded.configurations expanded.nodes long,
+      past,
+    ))
 
 -- the node with a number
-pub node_is : (nodes : List Node) (n : ℕ) (default : Node) → n < length nodes → slice_get nodes n ≡ Some (slice_index_or nodes n default)
+pub node_is : (nodes : List Node) (n : ℕ) (default : Node) → n < length nodes
+    → slice_get nodes n ≡ Some (slice_index_or nodes n default)
 node_is [] n default below = absurd (omega arith)
 node_is (e ∷ nodes) zero default below = refl
 node_is (e ∷ nodes) (suc n) default below = node_is nodes n default (omega arith)

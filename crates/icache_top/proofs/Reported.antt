@@ -26,7 +26,8 @@ use Rattle.icache_top.specs.Answer.{IsAcceptedWith, IsTextFrom, IsTooMuchFor, ad
 use Rattle.icache_top.proofs.Told.{IsManyFault}
 
 -- the nodes fetch the addresses of their configurations
-zipped_addresses : (step : Step) (all configurations : List Configuration) (nodes : List Node) → AllZip (IsNodeOf step all) configurations nodes
+zipped_addresses : (step : Step) (all configurations : List Configuration) (nodes : List Node)
+    → AllZip (IsNodeOf step all) configurations nodes
     → node_addresses nodes ≡ map (λ (c : Configuration). c.at) configurations
 zipped_addresses step all [] [] zipped = refl
 zipped_addresses step all [] (node ∷ nodes) zipped = absurd zipped
@@ -36,7 +37,8 @@ zipped_addresses step all (c ∷ configurations) (node ∷ nodes) zipped =
     ∙ ap (λ (rest : List ℕ). c.at ∷ rest) (zipped_addresses step all configurations nodes zipped.1)
 
 -- verdicts that were found stay so as a status would be handed on
-pub settled_ok : {V : Type 0} (found : Result V ViewFault) (verdicts : V) → settled_as found ≡ Ok verdicts → found ≡ Ok verdicts
+pub settled_ok : {V : Type 0} (found : Result V ViewFault) (verdicts : V) → settled_as found ≡ Ok verdicts
+    → found ≡ Ok verdicts
 settled_ok (Ok other) verdicts is = let same : other ≡ verdicts = cc is in ap Ok same
 settled_ok (Err (faults.TooManyBlocks set count)) verdicts is = absurd (cc is)
 settled_ok (Err faults.OutOfMemory) verdicts is = absurd (cc is)
@@ -47,24 +49,32 @@ ok_at P (Ok other) value is holds = let same : other ≡ value = cc is in subst 
 ok_at P (Err error) value is holds = absurd (cc is)
 
 module _ (image : Image) (entry : ℕ) (ask : ReportAsk) (expanded : Expansion)
-    (accepted : (layers : List (List Configuration)) × IsAccepted (successors image entry) image entry layers × (expanded.configurations ≡ all_of layers))
+    (accepted : (layers : List (List Configuration)) × IsAccepted (successors image entry) image entry layers
+    × (expanded.configurations ≡ all_of layers))
     (graph : IsGraphOf (successors image entry) entry expanded.configurations expanded.nodes) where
   -- the nodes fetch the addresses of the layers
   addresses_same : node_addresses expanded.nodes ≡ addresses_of accepted.0
   addresses_same =
-      zipped_addresses (successors image entry) expanded.configurations expanded.configurations expanded.nodes graph.each
+      zipped_addresses (successors image entry) expanded.configurations expanded.configurations expanded.nodes
+      graph.each
       ∙ ap (λ (cs : List Configuration). map (λ (c : Configuration). c.at) cs) accepted.2
 
   -- a set has too many blocks
   pub many : (fault : ViewFault) → IsFault expanded.nodes ask.geometry fault
-      → IsManyFault (λ set count. IsAcceptedWith image entry (λ layers. IsTooMuchFor (Report ask) layers set count)) fault
-  many (faults.TooManyBlocks set count) is =
-      (accepted.0, accepted.1, subst (λ (addresses : List ℕ). HaveMany addresses ask.geometry set count) addresses_same is)
+      → IsManyFault (λ set count. IsAcceptedWith image entry (λ layers. IsTooMuchFor (Report ask) layers set count))
+      fault
+  many (faults.TooManyBlocks set count) is = (
+    accepted.0,
+    accepted.1,
+    subst (λ (addresses : List ℕ). HaveMany addresses ask.geometry set count) addresses_same is,
+  )
   many faults.OutOfMemory is = tt
 
   -- right verdicts of all nodes are findings
-  pub findings : (nodes : List Node) (verdicts : List Verdict) → nodes ≡ expanded.nodes → IsWithin image → length verdicts ≡ length nodes
-      → AreRight nodes ask.geometry verdicts → AreFindings image entry ask.geometry expanded.configurations expanded.nodes verdicts
+  pub findings : (nodes : List Node) (verdicts : List Verdict) → nodes ≡ expanded.nodes → IsWithin image
+      → length verdicts ≡ length nodes
+      → AreRight nodes ask.geometry verdicts
+      → AreFindings image entry ask.geometry expanded.configurations expanded.nodes verdicts
   findings nodes verdicts same within one_each right = record {
     within = within;
     accepted = accepted;
@@ -74,10 +84,12 @@ module _ (image : Image) (entry : ℕ) (ask : ReportAsk) (expanded : Expansion)
   }
 
   -- all lines are the text that is wanted
-  wanted : (verdicts : List Verdict) → AreFindings image entry ask.geometry expanded.configurations expanded.nodes verdicts
+  wanted : (verdicts : List Verdict)
+      → AreFindings image entry ask.geometry expanded.configurations expanded.nodes verdicts
       → HaveFewInAll (node_addresses expanded.nodes) ask.geometry → (Sent : List ℕ → Type 0)
       → SendsAll ask.contexts image expanded verdicts Sent
-      → (text : List ℕ) × IsAcceptedWith image entry (λ layers. IsTextFrom (Report ask) image entry layers text) × Sent text
+      → (text : List ℕ) × IsAcceptedWith image entry (λ layers. IsTextFrom (Report ask) image entry layers text)
+      × Sent text
   wanted verdicts found few Sent (lines, all, sent) = (
     text_of lines,
     (
@@ -92,23 +104,30 @@ module _ (image : Image) (entry : ℕ) (ask : ReportAsk) (expanded : Expansion)
   )
 
   -- what the search for verdicts found of the graph's nodes, where it found some
-  module _ {V : Type 0} (items : V → List Verdict) (nodes : List Node) (result : Result V ViewFault) (kept : V) (now : List Verdict)
-      (was : settled_as result ≡ Ok kept) (is_now : now ≡ items kept) (same : nodes ≡ expanded.nodes) (within : IsWithin image)
-      (one_each : IfOk result (λ v. length (items v) ≡ length nodes)) (right : IfOk result (λ v. AreRight nodes ask.geometry (items v))) where
+  module _ {V : Type 0} (items : V → List Verdict) (nodes : List Node) (result : Result V ViewFault) (kept : V)
+      (now : List Verdict)
+      (was : settled_as result ≡ Ok kept) (is_now : now ≡ items kept) (same : nodes ≡ expanded.nodes)
+      (within : IsWithin image)
+      (one_each : IfOk result (λ v. length (items v) ≡ length nodes))
+      (right : IfOk result (λ v. AreRight nodes ask.geometry (items v))) where
     -- its findings are right
     pub found_now : AreFindings image entry ask.geometry expanded.configurations expanded.nodes now
     found_now =
         let found = settled_ok result kept was in
-        subst (λ (vs : List Verdict). AreFindings image entry ask.geometry expanded.configurations expanded.nodes vs) (sym is_now)
-        (findings nodes (items kept) same within (ok_at (λ v. length (items v) ≡ length nodes) result kept found one_each)
+        subst (λ (vs : List Verdict). AreFindings image entry ask.geometry expanded.configurations expanded.nodes vs)
+        (sym is_now)
+        (findings nodes (items kept) same within (ok_at (λ v. length (items v) ≡ length nodes) result kept found
+        one_each)
         (ok_at (λ v. AreRight nodes ask.geometry (items v)) result kept found right))
 
     -- and their lines are the text that is wanted
     pub wanted_now : IfOk result (λ v. HaveFewInAll (node_addresses nodes) ask.geometry) → (Sent : List ℕ → Type 0)
         → SendsAll ask.contexts image expanded now Sent
-        → (text : List ℕ) × IsAcceptedWith image entry (λ layers. IsTextFrom (Report ask) image entry layers text) × Sent text
+        → (text : List ℕ) × IsAcceptedWith image entry (λ layers. IsTextFrom (Report ask) image entry layers text)
+        × Sent text
     wanted_now few =
-        let few_now = ok_at (λ v. HaveFewInAll (node_addresses nodes) ask.geometry) result kept (settled_ok result kept was) few in
+        let few_now = ok_at (λ v. HaveFewInAll (node_addresses nodes) ask.geometry) result kept
+        (settled_ok result kept was) few in
         wanted now found_now (subst (λ (ns : List Node). HaveFewInAll (node_addresses ns) ask.geometry) same few_now)
 
 -- what holds of a fault, where something weaker is asked

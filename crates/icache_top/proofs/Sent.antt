@@ -29,7 +29,8 @@ module _ (At : ℕ → Option (Line × Option ℕ) → Type 0) where
       subst (AreAllFrom At (Some 0)) (sym (append_assoc front (line ∷ []) rest)) (before (line ∷ rest) (next, at, all))
 
   -- no line is left
-  before_all : (from : ℕ) (front : List Line) (next : Option ℕ) → AreAllBefore At (Some from) front → At from None → next ≡ None
+  before_all : (from : ℕ) (front : List Line) (next : Option ℕ) → AreAllBefore At (Some from) front → At from None
+      → next ≡ None
       → AreAllBefore At next front
   before_all from front next before none is = λ rest all.
       let empty : rest ≡ [] = subst (λ (p : Option ℕ). AreAllFrom At p rest) is all in
@@ -53,7 +54,8 @@ module _ (At : ℕ → Option (Line × Option ℕ) → Type 0) where
         (Pending-line a b c buffer left (text_of front) (line_text line) pending sent),
   )
 
-module _ (contexts : Bool) (image : Image) (expanded : Expansion) (verdicts : List Verdict) (found : AreFound image expanded verdicts) where
+module _ (contexts : Bool) (image : Image) (expanded : Expansion) (verdicts : List Verdict)
+    (found : AreFound image expanded verdicts) where
   abbrev At : ℕ → Option (Line × Option ℕ) → Type 0
   At = StandsAt contexts image expanded verdicts
 
@@ -64,13 +66,15 @@ module _ (contexts : Bool) (image : Image) (expanded : Expansion) (verdicts : Li
       rest image entry g expanded.configurations expanded.nodes verdicts findings contexts place
 
   -- a prefix of what stands before a place was sent
-  part_before : (a c : Option (List ℕ)) (front : List Line) (place : Option ℕ) → AreAllBefore At place front → SendsPrefix a c (text_of front)
+  part_before : (a c : Option (List ℕ)) (front : List Line) (place : Option ℕ) → AreAllBefore At place front
+      → SendsPrefix a c (text_of front)
       → SendsAll contexts image expanded verdicts (SendsPrefix a c)
   part_before a c front place before part =
       let (lines, all) = there place in (
         front ++ lines,
         before lines all,
-        subst (SendsPrefix a c) (sym (text_of-append front lines)) (SendsPrefix-more a c (text_of front) (text_of lines) part),
+        subst (SendsPrefix a c) (sym (text_of-append front lines))
+            (SendsPrefix-more a c (text_of front) (text_of lines) part),
       )
 
   -- a prefix of the lines so far was sent
@@ -81,7 +85,8 @@ module _ (contexts : Bool) (image : Image) (expanded : Expansion) (verdicts : Li
       part_before a c front (Some from) before (SendsPrefix-pending a b c buffer (text_of front) pending part)
   part_sent a b c buffer from (front, before, pending) (inr (line, next, at, part)) =
       part_before a c (front ++ line ∷ []) next (before_more At from front line next before at)
-      (subst (SendsPrefix a c) (line_behind front line) (SendsPrefix-line a b c buffer (text_of front) (line_text line) pending part))
+      (subst (SendsPrefix a c) (line_behind front line) (SendsPrefix-line a b c buffer (text_of front) (line_text line)
+      pending part))
 
   -- nothing was sent
   pub none_sent : (a : Option (List ℕ)) → SendsAll contexts image expanded verdicts (SendsPrefix a a)

@@ -25,8 +25,10 @@ status_is (Ok done) status h = absurd h
 status_is (Err s) status h = h
 
 -- a prefix of a wanted text was sent, and this fault ended it
-pub sent_told : (Refused : FlowFault → Type 0) (HasMany : ℕ → ℕ → Type 0) (IsWanted : List ℕ → Type 0) (old new : Option (List ℕ)) (text : List ℕ)
-    → (fault : SinkFault) (r : Result (Unit {0}) Status) → IsWanted text → SendsPrefix old new text → IsErrAnd r (λ s. s ≡ of_sink fault)
+pub sent_told : (Refused : FlowFault → Type 0) (HasMany : ℕ → ℕ → Type 0) (IsWanted : List ℕ → Type 0)
+    (old new : Option (List ℕ)) (text : List ℕ)
+    → (fault : SinkFault) (r : Result (Unit {0}) Status) → IsWanted text → SendsPrefix old new text
+    → IsErrAnd r (λ s. s ≡ of_sink fault)
     → ToldOf Refused HasMany IsWanted (status_of r) old new
 sent_told Refused HasMany IsWanted old new text sinks.Failed r wanted part gives =
     let P : Status → Type 0 = λ status. ToldOf Refused HasMany IsWanted status old new in
@@ -37,35 +39,40 @@ sent_told Refused HasMany IsWanted old new text sinks.OutOfMemory r wanted part 
 
 -- a fault of the program, as a status
 
-refused_of : (Refused : FlowFault → Type 0) (fault : FlowFault) → (fault ≡ flow.OutOfMemory → ⊥) → (fault ≡ flow.OutOfMemory) ⊎ Refused fault
+refused_of : (Refused : FlowFault → Type 0) (fault : FlowFault) → (fault ≡ flow.OutOfMemory → ⊥)
+    → (fault ≡ flow.OutOfMemory) ⊎ Refused fault
     → Refused fault
 refused_of Refused fault other (inl memory) = absurd (other memory)
 refused_of Refused fault other (inr refused) = refused
 
-module _ (Refused : FlowFault → Type 0) (HasMany : ℕ → ℕ → Type 0) (IsWanted : List ℕ → Type 0) (s : Option (List ℕ)) where
-  fault_told : (fault : FlowFault) → (fault ≡ flow.OutOfMemory) ⊎ Refused fault → ToldOf Refused HasMany IsWanted (of_flow fault) s s
-  fault_told flow.OutOfMemory refuses = inl (Keeps-refl s)
-  fault_told (flow.BadEntry entry) refuses = (refused_of Refused _ (λ e. cc) refuses, Keeps-refl s)
-  fault_told (flow.Illegal at word) refuses = (refused_of Refused _ (λ e. cc) refuses, Keeps-refl s)
-  fault_told (flow.ComputedJump at) refuses = (refused_of Refused _ (λ e. cc) refuses, Keeps-refl s)
-  fault_told (flow.BadTarget at target) refuses = (refused_of Refused _ (λ e. cc) refuses, Keeps-refl s)
-  fault_told (flow.Recursion at) refuses = (refused_of Refused _ (λ e. cc) refuses, Keeps-refl s)
-  fault_told (flow.TooManyFetches limit) refuses = (refused_of Refused _ (λ e. cc) refuses, Keeps-refl s)
+module _ (Refused : FlowFault → Type 0) (HasMany : ℕ → ℕ → Type 0) (IsWanted : List ℕ → Type 0) (s : Option (List ℕ))
+  where
+    fault_told : (fault : FlowFault) → (fault ≡ flow.OutOfMemory) ⊎ Refused fault
+        → ToldOf Refused HasMany IsWanted (of_flow fault) s s
+    fault_told flow.OutOfMemory refuses = inl (Keeps-refl s)
+    fault_told (flow.BadEntry entry) refuses = (refused_of Refused _ (λ e. cc) refuses, Keeps-refl s)
+    fault_told (flow.Illegal at word) refuses = (refused_of Refused _ (λ e. cc) refuses, Keeps-refl s)
+    fault_told (flow.ComputedJump at) refuses = (refused_of Refused _ (λ e. cc) refuses, Keeps-refl s)
+    fault_told (flow.BadTarget at target) refuses = (refused_of Refused _ (λ e. cc) refuses, Keeps-refl s)
+    fault_told (flow.Recursion at) refuses = (refused_of Refused _ (λ e. cc) refuses, Keeps-refl s)
+    fault_told (flow.TooManyFetches limit) refuses = (refused_of Refused _ (λ e. cc) refuses, Keeps-refl s)
 
-  pub flow_told : (fault : FlowFault) (r : Result (Unit {0}) Status) → (fault ≡ flow.OutOfMemory) ⊎ Refused fault
-      → IsErrAnd r (λ s. s ≡ of_flow fault) → ToldOf Refused HasMany IsWanted (status_of r) s s
-  flow_told fault r refuses gives =
-      let P : Status → Type 0 = λ status. ToldOf Refused HasMany IsWanted status s s in
-      subst P (sym (status_is r (of_flow fault) gives)) (fault_told fault refuses)
+    pub flow_told : (fault : FlowFault) (r : Result (Unit {0}) Status) → (fault ≡ flow.OutOfMemory) ⊎ Refused fault
+        → IsErrAnd r (λ s. s ≡ of_flow fault) → ToldOf Refused HasMany IsWanted (status_of r) s s
+    flow_told fault r refuses gives =
+        let P : Status → Type 0 = λ status. ToldOf Refused HasMany IsWanted status s s in
+        subst P (sym (status_is r (of_flow fault) gives)) (fault_told fault refuses)
 
 -- a fault of the file, as a status
 
-fault_of : (file : List ℕ) (fault : ElfFault) → (fault ≡ elf.OutOfMemory → ⊥) → (image_of file ≡ Err fault) ⊎ (fault ≡ elf.OutOfMemory)
+fault_of : (file : List ℕ) (fault : ElfFault) → (fault ≡ elf.OutOfMemory → ⊥)
+    → (image_of file ≡ Err fault) ⊎ (fault ≡ elf.OutOfMemory)
     → image_of file ≡ Err fault
 fault_of file fault other (inl is) = is
 fault_of file fault other (inr memory) = absurd (other memory)
 
-file_told : (settings : Settings) (file : List ℕ) (s : Option (List ℕ)) (fault : ElfFault) → (image_of file ≡ Err fault) ⊎ (fault ≡ elf.OutOfMemory)
+file_told : (settings : Settings) (file : List ℕ) (s : Option (List ℕ)) (fault : ElfFault)
+    → (image_of file ≡ Err fault) ⊎ (fault ≡ elf.OutOfMemory)
     → Tells settings file (of_elf fault) s s
 file_told settings file s elf.OutOfMemory fails = inl (Keeps-refl s)
 file_told settings file s (elf.Truncated need have) fails = (fault_of file _ (λ e. cc) fails, Keeps-refl s)
@@ -82,8 +89,10 @@ file_told settings file s (elf.SegmentWraps index) fails = (fault_of file _ (λ 
 file_told settings file s (elf.SegmentsOverlap index) fails = (fault_of file _ (λ e. cc) fails, Keeps-refl s)
 file_told settings file s elf.NoText fails = (fault_of file _ (λ e. cc) fails, Keeps-refl s)
 
-pub elf_told : (settings : Settings) (file : List ℕ) (s : Option (List ℕ)) (fault : ElfFault) (r : Result (Unit {0}) Status)
-    → (image_of file ≡ Err fault) ⊎ (fault ≡ elf.OutOfMemory) → IsErrAnd r (λ s. s ≡ of_elf fault) → Tells settings file (status_of r) s s
+pub elf_told : (settings : Settings) (file : List ℕ) (s : Option (List ℕ)) (fault : ElfFault)
+    (r : Result (Unit {0}) Status)
+    → (image_of file ≡ Err fault) ⊎ (fault ≡ elf.OutOfMemory) → IsErrAnd r (λ s. s ≡ of_elf fault)
+    → Tells settings file (status_of r) s s
 elf_told settings file s fault r fails gives =
     let P : Status → Type 0 = λ status. Tells settings file status s s in
     subst P (sym (status_is r (of_elf fault) gives)) (file_told settings file s fault fails)
@@ -94,7 +103,8 @@ IsManyFault HasMany (faults.TooManyBlocks set count) = HasMany set count
 IsManyFault HasMany faults.OutOfMemory = Unit {0}
 
 -- why the nodes of a program have no verdicts, as a status
-pub settled_told : {V : Type 0} (Refused : FlowFault → Type 0) (HasMany : ℕ → ℕ → Type 0) (IsWanted : List ℕ → Type 0) (s : Option (List ℕ))
+pub settled_told : {V : Type 0} (Refused : FlowFault → Type 0) (HasMany : ℕ → ℕ → Type 0) (IsWanted : List ℕ → Type 0)
+    (s : Option (List ℕ))
     → (found : Result V ViewFault) (status : Status) → settled_as found ≡ Err status → IfErr found (IsManyFault HasMany)
     → ToldOf Refused HasMany IsWanted status s s
 settled_told Refused HasMany IsWanted s (Ok verdicts) status is many = absurd (cc is)
@@ -106,28 +116,37 @@ settled_told Refused HasMany IsWanted s (Err faults.OutOfMemory) status is many 
     subst (λ (status : Status). ToldOf Refused HasMany IsWanted status s s) same (inl (Keeps-refl s))
 
 -- a status that is handed on
-pub handed_on : (Refused : FlowFault → Type 0) (HasMany : ℕ → ℕ → Type 0) (IsWanted : List ℕ → Type 0) (s : Option (List ℕ)) (status : Status)
+pub handed_on : (Refused : FlowFault → Type 0) (HasMany : ℕ → ℕ → Type 0) (IsWanted : List ℕ → Type 0)
+    (s : Option (List ℕ)) (status : Status)
     → (r : Result (Unit {0}) Status) → IsErrAnd r (λ own. own ≡ status) → ToldOf Refused HasMany IsWanted status s s
     → ToldOf Refused HasMany IsWanted (status_of r) s s
 handed_on Refused HasMany IsWanted s status r gives told =
     subst (λ (own : Status). ToldOf Refused HasMany IsWanted own s s) (sym (status_is r status gives)) told
 
-at_entry : (settings : Settings) (file : List ℕ) (image : Image) (status : Status) (old new : Option (List ℕ)) → image_of file ≡ Ok image
+at_entry : (settings : Settings) (file : List ℕ) (image : Image) (status : Status) (old new : Option (List ℕ))
+    → image_of file ≡ Ok image
     → SaysOfProgram settings.ask image (entry_of settings image) status old new → Tells settings file status old new
-at_entry settings file image Done old new is (text, wanted, sent) = (text, record { image = image; is_image = is; text_is = wanted }, sent)
-at_entry settings file image WriteFault old new is (text, wanted, sent) = (text, record { image = image; is_image = is; text_is = wanted }, sent)
+at_entry settings file image Done old new is (text, wanted, sent) =
+    (text, record { image = image; is_image = is; text_is = wanted }, sent)
+at_entry settings file image WriteFault old new is (text, wanted, sent) =
+    (text, record { image = image; is_image = is; text_is = wanted }, sent)
 at_entry settings file image OutOfMemory old new is (inl kept) = inl kept
 at_entry settings file image OutOfMemory old new is (inr (text, wanted, sent)) =
     inr (text, record { image = image; is_image = is; text_is = wanted }, sent)
-at_entry settings file image (Flow fault) old new is (refused, kept) = (record { image = image; is_image = is; refused = refused }, kept)
-at_entry settings file image (TooManyBlocks set count) old new is (many, kept) = (record { image = image; is_image = is; too_much = many }, kept)
+at_entry settings file image (Flow fault) old new is (refused, kept) =
+    (record { image = image; is_image = is; refused = refused }, kept)
+at_entry settings file image (TooManyBlocks set count) old new is (many, kept) =
+    (record { image = image; is_image = is; too_much = many }, kept)
 at_entry settings file image Usage old new is told = absurd told
 at_entry settings file image ReadFault old new is told = absurd told
 at_entry settings file image FileTooBig old new is told = absurd told
 at_entry settings file image (Elf fault) old new is told = absurd told
 
 -- what a status says of the program of a file
-pub program_told : (settings : Settings) (file : List ℕ) (image : Image) (entry : ℕ) (status : Status) (old new : Option (List ℕ))
-    → image_of file ≡ Ok image → entry ≡ entry_of settings image → SaysOfProgram settings.ask image entry status old new → Tells settings file status old new
+pub program_told : (settings : Settings) (file : List ℕ) (image : Image) (entry : ℕ) (status : Status)
+    (old new : Option (List ℕ))
+    → image_of file ≡ Ok image → entry ≡ entry_of settings image → SaysOfProgram settings.ask image entry status old new
+    → Tells settings file status old new
 program_told settings file image entry status old new is same told =
-    at_entry settings file image status old new is (subst (λ (entry : ℕ). SaysOfProgram settings.ask image entry status old new) same told)
+    at_entry settings file image status old new is (subst
+    (λ (entry : ℕ). SaysOfProgram settings.ask image entry status old new) same told)

@@ -65,7 +65,8 @@ IsAcceptedWith image entry IsSuch =
 pub record IsAnswerOf (settings : Settings) (file text : List ℕ) : Type 0 where
   pub image : Image
   pub is_image : image_of file ≡ Ok image
-  pub text_is : IsAcceptedWith image (entry_of settings image) (λ layers. IsTextFrom settings.ask image (entry_of settings image) layers text)
+  pub text_is : IsAcceptedWith image (entry_of settings image)
+      (λ layers. IsTextFrom settings.ask image (entry_of settings image) layers text)
 
 -- the file is read, and the first set of its program with too many fetched blocks is this one, with `count` of them
 pub record HasManyBlocks (settings : Settings) (file : List ℕ) (set count : ℕ) : Type 0 where
@@ -85,10 +86,12 @@ pub record HasFlowFault (settings : Settings) (file : List ℕ) (fault : FlowFau
 
 -- what a status says of a program that is refused with a fault, that has too many blocks in a set, or of which a text is
 -- wanted, and of what the sink got
-abbrev pub ToldOf : (FlowFault → Type 0) → (ℕ → ℕ → Type 0) → (List ℕ → Type 0) → Status → Option (List ℕ) → Option (List ℕ) → Type 0
+abbrev pub ToldOf : (FlowFault → Type 0) → (ℕ → ℕ → Type 0) → (List ℕ → Type 0) → Status → Option (List ℕ)
+    → Option (List ℕ) → Type 0
 ToldOf Refused HasMany IsWanted Done old new = (text : List ℕ) × IsWanted text × Appends old new text
 ToldOf Refused HasMany IsWanted WriteFault old new = (text : List ℕ) × IsWanted text × SendsPrefix old new text
-ToldOf Refused HasMany IsWanted OutOfMemory old new = Keeps old new ⊎ ((text : List ℕ) × IsWanted text × SendsPrefix old new text)
+ToldOf Refused HasMany IsWanted OutOfMemory old new =
+    Keeps old new ⊎ ((text : List ℕ) × IsWanted text × SendsPrefix old new text)
 ToldOf Refused HasMany IsWanted (Flow fault) old new = Refused fault × Keeps old new
 ToldOf Refused HasMany IsWanted (TooManyBlocks set count) old new = HasMany set count × Keeps old new
 ToldOf Refused HasMany IsWanted Usage old new = ⊥
@@ -110,13 +113,15 @@ Tells settings file status old new =
     ToldOf (HasFlowFault settings file) (HasManyBlocks settings file) (IsAnswerOf settings file) status old new
 
 -- the arguments give settings, the whole file was read, and the status says this of it
-abbrev pub Read : List (List ℕ) → Status → Option (List ℕ) → Option (List ℕ) → Option (List ℕ) → Option (List ℕ) → Type 0
+abbrev pub Read : List (List ℕ) → Status → Option (List ℕ) → Option (List ℕ) → Option (List ℕ) → Option (List ℕ)
+    → Type 0
 Read words status left now old new =
     (settings : Settings) × (settings_of words ≡ Some settings)
     × ((file : List ℕ) × Reads left now file × Tells settings file status old new)
 
 -- what a run answers, of the bytes left in the source before and after, and of those sent to the sink before and after
-abbrev pub Answers : List (List ℕ) → Status → Option (List ℕ) → Option (List ℕ) → Option (List ℕ) → Option (List ℕ) → Type 0
+abbrev pub Answers : List (List ℕ) → Status → Option (List ℕ) → Option (List ℕ) → Option (List ℕ) → Option (List ℕ)
+    → Type 0
 Answers words Usage left now old new = Keeps left now × Keeps old new
 Answers words ReadFault left now old new = TakesAtMost left now (file_limit + 1) × Keeps old new
 Answers words FileTooBig left now old new = Takes left now (file_limit + 1) × Keeps old new
@@ -131,7 +136,8 @@ Answers words (TooManyBlocks set count) left now old new = Read words (TooManyBl
 -- the arguments give settings, the file is within the limit, and the status says this of it
 abbrev pub Judges : List (List ℕ) → List ℕ → Status → Option (List ℕ) → Option (List ℕ) → Type 0
 Judges words file status old new =
-    (settings : Settings) × (settings_of words ≡ Some settings) × (length file ≤ file_limit) × Tells settings file status old new
+    (settings : Settings) × (settings_of words ≡ Some settings) × (length file ≤ file_limit)
+    × Tells settings file status old new
 
 -- what a status says of a source whose bytes are known at the start
 abbrev pub SaysOf : List (List ℕ) → List ℕ → Status → Option (List ℕ) → Option (List ℕ) → Type 0
@@ -185,7 +191,8 @@ CountsOutRefusals status before now = now ≡ before
 
 -- how a run read its source: not at all at faulty arguments, up to the first read that failed, up to the limit, or to its
 -- end; where memory ran out, up to there
-abbrev pub ReadsFor : {P : Type 0} → (P → Result ℕ Failed → P → Type 0) → (P → Option (List ℕ)) → (P → ℕ) → Status → P → P → Type 0
+abbrev pub ReadsFor : {P : Type 0} → (P → Result ℕ Failed → P → Type 0) → (P → Option (List ℕ)) → (P → ℕ) → Status → P
+    → P → Type 0
 ReadsFor reads left faults Usage old new = new ≡ old
 ReadsFor reads left faults ReadFault old new = EndsAtFault reads left faults old new
 ReadsFor reads left faults FileTooBig old new = MovesSome reads old new

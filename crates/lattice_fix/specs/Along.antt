@@ -10,4 +10,5 @@ along F (m ∷ n ∷ earlier) = F.transfer n (along F (n ∷ earlier))
 
 -- the transfer of a join is the join of the transfers
 abbrev pub IsDistributive : {D : Type 0} → Framework D → Type 0
-IsDistributive {D} F = (n : ℕ) (x y : D) → F.carrier x → F.carrier y → F.transfer n (F.join x y) ≡ F.join (F.transfer n x) (F.transfer n y)
+IsDistributive {D} F = (n : ℕ) (x y : D) → F.carrier x → F.carrier y → F.transfer n (F.join x y)
+    ≡ F.join (F.transfer n x) (F.transfer n y)

@@ -41,7 +41,8 @@ short_chain cap x (y ∷ earlier) chain =
 short_chains : (cap : ℕ) (chain : List ℕ) → IsChain (capped cap) chain → length chain ≤ cap + 1
 short_chains cap [] chain = omega arith
 short_chains cap (x ∷ []) chain = omega arith
-short_chains cap (x ∷ y ∷ earlier) chain = let few = short_chain cap x (y ∷ earlier) chain in let small : x ≤ cap = chain.0 in omega (arith, few, small)
+short_chains cap (x ∷ y ∷ earlier) chain = let few = short_chain cap x (y ∷ earlier) chain in let small : x ≤ cap =
+    chain.0 in omega (arith, few, small)
 
 -- the laws hold
 pub capped_monotone : (cap : ℕ) → IsMonotone (capped cap)

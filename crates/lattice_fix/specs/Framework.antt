@@ -25,7 +25,8 @@ pub record IsMonotone {D : Type 0} (F : Framework D) : Type 0 where
   pub join_within : (x y : D) → F.carrier x → F.carrier y → F.carrier (F.join x y)
   pub join_left : (x y : D) → F.carrier x → F.carrier y → F.below x (F.join x y)
   pub join_right : (x y : D) → F.carrier x → F.carrier y → F.below y (F.join x y)
-  pub join_least : (x y z : D) → F.carrier x → F.carrier y → F.carrier z → F.below x z → F.below y z → F.below (F.join x y) z
+  pub join_least : (x y z : D) → F.carrier x → F.carrier y → F.carrier z → F.below x z → F.below y z
+      → F.below (F.join x y) z
   pub start_within : F.carrier F.start
   pub transfer_within : (n : ℕ) (x : D) → F.carrier x → F.carrier (F.transfer n x)
   pub monotone : (n : ℕ) (x y : D) → F.carrier x → F.carrier y → F.below x y → F.below (F.transfer n x) (F.transfer n y)

@@ -31,7 +31,8 @@ Raises F None x = Unit {0}
 Raises F (Some y) x = F.join y x ≢ y
 
 -- one change leads from what the nodes had to what they have then
-pub record IsStep {D : Type 0} (F : Framework D) (nodes : List Node) (before : List (Option D)) (change : Change) (after : List (Option D)) : Type 0 where
+pub record IsStep {D : Type 0} (F : Framework D) (nodes : List Node) (before : List (Option D)) (change : Change)
+    (after : List (Option D)) : Type 0 where
   pub brought : D
   pub inside : change.node < length before
   pub brings : Brings F nodes before change.node change.from brought

@@ -10,11 +10,13 @@ pub record IsSolution {D : Type 0} (F : Framework D) (nodes : List Node) (before
   pub one_each : length before ≡ length nodes
   pub within : (n : ℕ) (x : D) → slice_get before n ≡ Some x → F.carrier x
   pub starts : (x : D) → slice_get before 0 ≡ Some x → F.below F.start x
-  pub follows : (n m : ℕ) (x y : D) → IsSuccessor (graph_step nodes) n m → slice_get before n ≡ Some x → slice_get before m ≡ Some y
+  pub follows : (n m : ℕ) (x y : D) → IsSuccessor (graph_step nodes) n m → slice_get before n ≡ Some x
+      → slice_get before m ≡ Some y
       → F.below (F.transfer n x) y
 
 -- a solution that lies below each solution
 pub record IsLeast {D : Type 0} (F : Framework D) (nodes : List Node) (before : List D) : Type 0 where
   pub solution : IsSolution F nodes before
-  pub least : (other : List D) → IsSolution F nodes other → (n : ℕ) (x y : D) → slice_get before n ≡ Some x → slice_get other n ≡ Some y
+  pub least : (other : List D) → IsSolution F nodes other → (n : ℕ) (x y : D) → slice_get before n ≡ Some x
+      → slice_get other n ≡ Some y
       → F.below x y

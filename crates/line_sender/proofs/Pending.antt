@@ -89,7 +89,8 @@ SendsPrefix-line a b c buffer text line before part =
 pub WritesBy-after : {P T : Type 0} (writes : P → Result ℕ SinkFault → P → Type 0) (r : Result T SinkFault) (a b c : P)
     → MovesSome writes a b → WritesBy writes r b c → WritesBy writes r a c
 WritesBy-after writes (Ok value) a b c before next = MovesSome-trans writes a b c before next
-WritesBy-after writes (Err faults.Failed) a b c before next = EndsWith-after writes (Err faults.Failed) a b c before next
+WritesBy-after writes (Err faults.Failed) a b c before next =
+    EndsWith-after writes (Err faults.Failed) a b c before next
 WritesBy-after writes (Err faults.OutOfMemory) a b c before (inl next) = inl (MovesSome-trans writes a b c before next)
 WritesBy-after writes (Err faults.OutOfMemory) a b c before (inr next) =
     inr (EndsWith-after writes (Err faults.OutOfMemory) a b c before next)

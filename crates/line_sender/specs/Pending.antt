@@ -19,4 +19,5 @@ MayRefuse (Err faults.OutOfMemory) before now = before ≤ now
 abbrev pub WritesBy : {P T : Type 0} → (P → Result ℕ SinkFault → P → Type 0) → Result T SinkFault → P → P → Type 0
 WritesBy writes (Ok value) old new = MovesSome writes old new
 WritesBy writes (Err faults.Failed) old new = EndsWith writes (Err faults.Failed) old new
-WritesBy writes (Err faults.OutOfMemory) old new = MovesSome writes old new ⊎ EndsWith writes (Err faults.OutOfMemory) old new
+WritesBy writes (Err faults.OutOfMemory) old new =
+    MovesSome writes old new ⊎ EndsWith writes (Err faults.OutOfMemory) old new

@@ -47,7 +47,8 @@ pub has-map : {X Y : Type 0} (f : X → Y) (xs : List X) (x : X) → Contains xs
 has-map f xs x (k, below, is) = (k, omega (arith, below, length-map xs f), get_or-map f xs k x (f x) below ∙ ap f is)
 
 -- and of nothing else
-pub from-map : {X Y : Type 0} (f : X → Y) (xs : List X) (y : Y) → Contains (map f xs) y → (x : X) × Contains xs x × (f x ≡ y)
+pub from-map : {X Y : Type 0} (f : X → Y) (xs : List X) (y : Y) → Contains (map f xs) y
+    → (x : X) × Contains xs x × (f x ≡ y)
 from-map f [] y has = absurd (has-none y has)
 from-map f (x ∷ xs) y (zero, below, is) = (x, has-first x xs, is)
 from-map f (x ∷ xs) y (suc k, below, is) =

@@ -20,7 +20,8 @@ letter_valid (Ok (first ∷ second ∷ third ∷ others)) d letter is = ap (list
 letter_valid (Err fault) d letter is = ap (list_all is_letter) is
 
 -- the choices of a path are letters
-choices_valid : {C F : Type 0} (step : C → Result (List C) F) (path : List C) (letters : List ℕ) → HasChoices step path letters
+choices_valid : {C F : Type 0} (step : C → Result (List C) F) (path : List C) (letters : List ℕ)
+    → HasChoices step path letters
     → list_all is_letter letters ≡ true
 choices_valid step [] letters is = ap (list_all is_letter) is
 choices_valid step (c ∷ []) letters is = ap (list_all is_letter) is
@@ -30,7 +31,8 @@ choices_valid step (d ∷ c ∷ earlier) letters (before, letter, has, is, whole
     (letter_valid (step c) d letter is)
 
 -- a way that names a path of some member is valid
-pub way_valid : {C F : Type 0} (step : C → Result (List C) F) (c : C) (earlier : List C) (way : Way) → Names step way (c ∷ earlier)
+pub way_valid : {C F : Type 0} (step : C → Result (List C) F) (c : C) (earlier : List C) (way : Way)
+    → Names step way (c ∷ earlier)
     → is_valid_way way ≡ true
 way_valid step c earlier way names =
     let some : 0 < way.steps = omega (arith, names.steps) in

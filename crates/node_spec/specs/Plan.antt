@@ -23,7 +23,8 @@ pub record IsNodeAt (nodes : List Node) (address n : ℕ) : Type 0 where
 
 -- the way names a path of the graph that ends in the node
 abbrev pub NamesPathTo : List Node → ℕ → Way → Type 0
-NamesPathTo nodes n way = (earlier : List ℕ) × IsPath (graph_step nodes) 0 (n ∷ earlier) × Names (graph_step nodes) way (n ∷ earlier)
+NamesPathTo nodes n way = (earlier : List ℕ) × IsPath (graph_step nodes) 0 (n ∷ earlier)
+    × Names (graph_step nodes) way (n ∷ earlier)
 
 -- the verdict's own way to a hit, or to a miss where `hits` is false; or any way to a node where each path ends so
 abbrev pub IsVerdictWay : List Node → ℕ → Verdict → Bool → Way → Type 0

@@ -14,4 +14,5 @@ IsNodeVerdict nodes g n (Unknown hit miss) = NamesEnd nodes g n hit true × Name
 
 -- the list has a verdict for the node, and it is right
 abbrev pub IsRightAt : List Node → Geometry → List Verdict → ℕ → Type 0
-IsRightAt nodes g verdicts n = (verdict : Verdict) × (slice_get verdicts n ≡ Some verdict) × IsNodeVerdict nodes g n verdict
+IsRightAt nodes g verdicts n = (verdict : Verdict) × (slice_get verdicts n ≡ Some verdict)
+    × IsNodeVerdict nodes g n verdict

@@ -67,7 +67,8 @@ module _ (step : Step) where
   next_of before last =
       let gives : Configuration → List Configuration = λ c. result_unwrap_or (step c) [] in
       let found = flat_map gives last in
-      let (next, are) = rest_of configuration_cmp configurations_total (λ c d. (equal-same c d).0) (before ++ last) found in (
+      let (next, are) = rest_of configuration_cmp configurations_total (λ c d. (equal-same c d).0) (before ++ last)
+      found in (
         next,
         record {
           sorted = are.sorted;

@@ -30,7 +30,8 @@ behind_fewer first zero more xs ys same =
 behind_fewer first (suc n) more xs ys same =
     let next : suc n + suc more ≡ suc (n + suc more) = omega arith in
     let there : first + 4 + 4 * n ≡ first + 4 * suc n = omega arith in
-    let opened : words_from first (suc n) ++ xs ≡ words_from first (suc (n + suc more)) ++ ys = same ∙ ap (λ k. words_from first k ++ ys) next in
+    let opened : words_from first (suc n) ++ xs ≡ words_from first (suc (n + suc more)) ++ ys =
+    same ∙ ap (λ k. words_from first k ++ ys) next in
     let rest : words_from (first + 4) n ++ xs ≡ words_from (first + 4) (n + suc more) ++ ys = cc opened in
     behind_fewer (first + 4) n more xs ys rest ∙ ap (λ p. words_from p (suc more) ++ ys) there
 
@@ -38,7 +39,8 @@ behind_fewer first (suc n) more xs ys same =
 behind_same : (first n : ℕ) (xs ys : List ℕ) → words_from first n ++ xs ≡ words_from first n ++ ys → xs ≡ ys
 behind_same first zero xs ys same = same
 behind_same first (suc n) xs ys same =
-    let rest : words_from (first + 4) n ++ xs ≡ words_from (first + 4) n ++ ys = cc same in behind_same (first + 4) n xs ys rest
+    let rest : words_from (first + 4) n ++ xs ≡ words_from (first + 4) n ++ ys =
+    cc same in behind_same (first + 4) n xs ys rest
 
 -- the word with index `k` is among the first `n`
 word_among : (first n k : ℕ) → k < n → Contains (words_from first n) (first + 4 * k)
@@ -61,7 +63,8 @@ end_of first last ends =
     let (i, below, at) = word_place first (words_in first last) last ends in omega (arith, below, at)
 
 -- lines after a range are as they were without it
-greatest_behind : (first last : ℕ) (lines : List Line) → AreGreatest (Unreachable first last ∷ lines) → AreGreatest lines
+greatest_behind : (first last : ℕ) (lines : List Line) → AreGreatest (Unreachable first last ∷ lines)
+    → AreGreatest lines
 greatest_behind first last [] greatest = tt
 greatest_behind first last (At at verdict ∷ lines) greatest = greatest
 greatest_behind first last (Context node at depth back verdict ∷ lines) greatest = greatest
@@ -73,7 +76,8 @@ module _ (image : Image) (entry : ℕ) (g : Geometry) where
   AreRight lines = AllByRecursion (IsRightLine image entry g) lines
 
   -- no line stands at an address that no path reaches
-  not_reached : (p at : ℕ) (verdict : Verdict) → IsUnreached image entry p → p ≡ at → IsRight image entry g (IsAt at) verdict → ⊥
+  not_reached : (p at : ℕ) (verdict : Verdict) → IsUnreached image entry p → p ≡ at
+      → IsRight image entry g (IsAt at) verdict → ⊥
   not_reached p at verdict unreached same right =
       let (addresses, fetched) = reached image entry g (IsAt at) verdict right in
       subst (λ q. IsUnreached image entry q) same unreached addresses fetched
@@ -84,26 +88,32 @@ module _ (image : Image) (entry : ℕ) (g : Geometry) where
   some_address (Context node at depth back verdict) lines right none = right
   some_address (Unreachable first last) lines right none =
       let one : words_in first last ≡ suc ((last - first) / 4) = omega arith in
-      let opened : words_from first (suc ((last - first) / 4)) ++ listed lines ≡ [] = ap (λ k. words_from first k ++ listed lines) (sym one) ∙ none in
+      let opened : words_from first (suc ((last - first) / 4)) ++ listed lines ≡ [] =
+      ap (λ k. words_from first k ++ listed lines) (sym one) ∙ none in
       absurd (cc opened)
 
   -- lines after a range don't begin with the address after it, where no path reaches that
-  nothing_behind : (first last p : ℕ) (lines : List Line) (others : List ℕ) → AreGreatest (Unreachable first last ∷ lines) → AreRight lines
+  nothing_behind : (first last p : ℕ) (lines : List Line) (others : List ℕ)
+      → AreGreatest (Unreachable first last ∷ lines) → AreRight lines
       → IsUnreached image entry p → p ≡ last + 4 → listed lines ≡ p ∷ others → ⊥
   nothing_behind first last p [] others greatest right unreached behind begins = absurd (cc begins)
   nothing_behind first last p (At at verdict ∷ lines) others greatest right unreached behind begins =
       let same : p ≡ at = cc begins in not_reached p at verdict unreached same right.0
-  nothing_behind first last p (Context node at depth back verdict ∷ lines) others greatest right unreached behind begins = right.0
+  nothing_behind first last p (Context node at depth back verdict ∷ lines) others greatest right unreached behind
+      begins = right.0
   nothing_behind first last p (Unreachable next end ∷ lines) others greatest right unreached behind begins =
       let one : words_in next end ≡ suc ((end - next) / 4) = omega arith in
-      let opened : words_from next (suc ((end - next) / 4)) ++ listed lines ≡ p ∷ others = ap (λ k. words_from next k ++ listed lines) (sym one) ∙ begins in
+      let opened : words_from next (suc ((end - next) / 4)) ++ listed lines ≡ p ∷ others =
+      ap (λ k. words_from next k ++ listed lines) (sym one) ∙ begins in
       let same : p ≡ next = cc opened in
       greatest.0 (sym same ∙ behind)
 
   -- a range isn't shorter than another that begins with it, where both lists go on alike
-  not_shorter : (first last end : ℕ) (lines others : List Line) → AreGreatest (Unreachable first last ∷ lines) → AreRight lines
+  not_shorter : (first last end : ℕ) (lines others : List Line) → AreGreatest (Unreachable first last ∷ lines)
+      → AreRight lines
       → IsRightLine image entry g (Unreachable first last) → IsRightLine image entry g (Unreachable first end)
-      → listed (Unreachable first last ∷ lines) ≡ listed (Unreachable first end ∷ others) → words_in first last < words_in first end → ⊥
+      → listed (Unreachable first last ∷ lines) ≡ listed (Unreachable first end ∷ others)
+      → words_in first last < words_in first end → ⊥
   not_shorter first last end lines others greatest right range other same shorter =
       let n = words_in first last in
       let more = words_in first end - n - 1 in
@@ -113,8 +123,10 @@ module _ (image : Image) (entry : ℕ) (g : Geometry) where
       let begins : listed lines ≡ words_from (first + 4 * n) (suc more) ++ listed others =
       behind_fewer first n more (listed lines) (listed others) whole in
       let unreached : IsUnreached image entry (first + 4 * n) =
-      each-has (IsUnreached image entry) (range_addresses first end) other.1 (first + 4 * n) (word_among first (words_in first end) n shorter) in
-      nothing_behind first last (first + 4 * n) lines (words_from (first + 4 * n + 4) more ++ listed others) greatest right unreached
+      each-has (IsUnreached image entry) (range_addresses first end) other.1 (first + 4 * n)
+      (word_among first (words_in first end) n shorter) in
+      nothing_behind first last (first + 4 * n) lines (words_from (first + 4 * n + 4) more ++ listed others) greatest
+      right unreached
       (sym (end_of first last range.0)) begins
 
   -- two ranges that begin alike are one
@@ -123,8 +135,10 @@ module _ (image : Image) (entry : ℕ) (g : Geometry) where
       → IsRightLine image entry g (Unreachable first last) → IsRightLine image entry g (Unreachable first end)
       → listed (Unreachable first last ∷ lines) ≡ listed (Unreachable first end ∷ others) → last ≡ end
   one_range first last end lines others greatest greatest' right right' range range' same =
-      let no_less : words_in first last < words_in first end → ⊥ = not_shorter first last end lines others greatest right range range' same in
-      let no_more : words_in first end < words_in first last → ⊥ = not_shorter first end last others lines greatest' right' range' range (sym same) in
+      let no_less : words_in first last < words_in first end → ⊥ =
+      not_shorter first last end lines others greatest right range range' same in
+      let no_more : words_in first end < words_in first last → ⊥ =
+      not_shorter first end last others lines greatest' right' range' range (sym same) in
       ⊎_elim
       (λ (less : words_in first last < words_in first end). absurd (no_less less))
       (λ (as_many : words_in first end ≤ words_in first last).
@@ -139,48 +153,64 @@ module _ (image : Image) (entry : ℕ) (g : Geometry) where
   range_first : (first last : ℕ) (lines : List Line)
       → listed (Unreachable first last ∷ lines) ≡ first ∷ (words_from (first + 4) ((last - first) / 4) ++ listed lines)
   range_first first last lines =
-      let one : words_in first last ≡ suc ((last - first) / 4) = omega arith in ap (λ k. words_from first k ++ listed lines) one
+      let one : words_in first last ≡ suc ((last - first) / 4) =
+      omega arith in ap (λ k. words_from first k ++ listed lines) one
 
   -- a line of a word and a range don't begin alike
-  word_and_range : (at : ℕ) (verdict : Verdict) (first last : ℕ) (lines others : List Line) → IsRight image entry g (IsAt at) verdict
-      → IsRightLine image entry g (Unreachable first last) → listed (At at verdict ∷ lines) ≡ listed (Unreachable first last ∷ others) → ⊥
+  word_and_range : (at : ℕ) (verdict : Verdict) (first last : ℕ) (lines others : List Line)
+      → IsRight image entry g (IsAt at) verdict
+      → IsRightLine image entry g (Unreachable first last)
+      → listed (At at verdict ∷ lines) ≡ listed (Unreachable first last ∷ others) → ⊥
   word_and_range at verdict first last lines others right range same =
-      let opened : at ∷ listed lines ≡ first ∷ (words_from (first + 4) ((last - first) / 4) ++ listed others) = same ∙ range_first first last others in
+      let opened : at ∷ listed lines ≡ first ∷ (words_from (first + 4) ((last - first) / 4) ++ listed others) =
+      same ∙ range_first first last others in
       let one : at ≡ first = cc opened in
       let here : first + 4 * 0 ≡ first = omega arith in
       let among : Contains (range_addresses first last) first =
-      subst (λ p. Contains (range_addresses first last) p) here (word_among first (words_in first last) 0 (omega arith)) in
-      not_reached first at verdict (each-has (IsUnreached image entry) (range_addresses first last) range.1 first among) (sym one) right
+      subst (λ p. Contains (range_addresses first last) p) here
+      (word_among first (words_in first last) 0 (omega arith)) in
+      not_reached first at verdict (each-has (IsUnreached image entry) (range_addresses first last) range.1 first among)
+      (sym one) right
 
   -- two ranges before lists that are alike are one, and what comes after them is alike
   same_range : (first first' last last' : ℕ) (lines others : List Line) → AreRight (Unreachable first last ∷ lines)
-      → AreRight (Unreachable first' last' ∷ others) → AreGreatest (Unreachable first last ∷ lines) → AreGreatest (Unreachable first' last' ∷ others)
+      → AreRight (Unreachable first' last' ∷ others) → AreGreatest (Unreachable first last ∷ lines)
+      → AreGreatest (Unreachable first' last' ∷ others)
       → first ≡ first' → listed (Unreachable first last ∷ lines) ≡ listed (Unreachable first' last' ∷ others)
       → (last ≡ last') × (listed lines ≡ listed others)
   same_range first first' last last' lines others right right' greatest greatest' one =
       let Same : ℕ → Type 0 = λ p. AreRight (Unreachable p last' ∷ others) → AreGreatest (Unreachable p last' ∷ others)
-      → listed (Unreachable first last ∷ lines) ≡ listed (Unreachable p last' ∷ others) → (last ≡ last') × (listed lines ≡ listed others) in
+      → listed (Unreachable first last ∷ lines) ≡ listed (Unreachable p last' ∷ others)
+      → (last ≡ last') × (listed lines ≡ listed others) in
       let here : Same first = λ right' greatest' same.
-      let ends : last ≡ last' = one_range first last last' lines others greatest greatest' right.1 right'.1 right.0 right'.0 same in
-      let whole : words_from first (words_in first last) ++ listed lines ≡ words_from first (words_in first last) ++ listed others =
+      let ends : last ≡ last' = one_range first last last' lines others greatest greatest' right.1 right'.1 right.0
+      right'.0 same in
+      let whole : words_from first (words_in first last) ++ listed lines ≡ words_from first (words_in first last)
+      ++ listed others =
       same ∙ ap (λ end. words_from first (words_in first end) ++ listed others) (sym ends) in
       (ends, behind_same first (words_in first last) (listed lines) (listed others) whole) in
       subst Same one here right' greatest'
 
   -- right lines with the same addresses, in which no two ranges could be joined, are alike
-  alike : (lines others : List Line) → AreRight lines → AreRight others → AreGreatest lines → AreGreatest others → listed lines ≡ listed others
+  alike : (lines others : List Line) → AreRight lines → AreRight others → AreGreatest lines → AreGreatest others
+      → listed lines ≡ listed others
       → AreAlike lines others
   alike [] [] right right' greatest greatest' same = refl
   alike [] (line ∷ others) right right' greatest greatest' same = absurd (some_address line others right'.0 (sym same))
   alike (line ∷ lines) [] right right' greatest greatest' same = absurd (some_address line lines right.0 same)
-  alike (Context node at depth back verdict ∷ lines) (line ∷ others) right right' greatest greatest' same = absurd right.0
-  alike (At at verdict ∷ lines) (Context node at' depth back verdict' ∷ others) right right' greatest greatest' same = absurd right'.0
-  alike (Unreachable first last ∷ lines) (Context node at depth back verdict ∷ others) right right' greatest greatest' same = absurd right'.0
+  alike (Context node at depth back verdict ∷ lines) (line ∷ others) right right' greatest greatest' same =
+      absurd right.0
+  alike (At at verdict ∷ lines) (Context node at' depth back verdict' ∷ others) right right' greatest greatest' same =
+      absurd right'.0
+  alike (Unreachable first last ∷ lines) (Context node at depth back verdict ∷ others) right right' greatest greatest'
+      same = absurd right'.0
   alike (At at verdict ∷ lines) (At at' verdict' ∷ others) right right' greatest greatest' same =
       let one : at' ≡ at = cc same in
       let rest : listed lines ≡ listed others = cc same in
-      let here : IsRight image entry g (IsAt at) verdict' = subst (λ p. IsRight image entry g (IsAt p) verdict') one right'.0 in
-      let said : verdict_alone verdict ≡ verdict_alone verdict' = one_verdict image entry g (IsAt at) verdict verdict' right.0 here in
+      let here : IsRight image entry g (IsAt at) verdict' =
+      subst (λ p. IsRight image entry g (IsAt p) verdict') one right'.0 in
+      let said : verdict_alone verdict ≡ verdict_alone verdict' =
+      one_verdict image entry g (IsAt at) verdict verdict' right.0 here in
       let later : AreAlike lines others = alike lines others right.1 right'.1 greatest greatest' rest in
       cc (one, said, later)
   alike (At at verdict ∷ lines) (Unreachable first last ∷ others) right right' greatest greatest' same =
@@ -194,11 +224,13 @@ module _ (image : Image) (entry : ℕ) (g : Geometry) where
       let one : first ≡ first' = cc opened in
       let (ends, rest) = same_range first first' last last' lines others right right' greatest greatest' one same in
       let later : AreAlike lines others =
-      alike lines others right.1 right'.1 (greatest_behind first last lines greatest) (greatest_behind first' last' others greatest') rest in
+      alike lines others right.1 right'.1 (greatest_behind first last lines greatest)
+      (greatest_behind first' last' others greatest') rest in
       cc (one, ends, later)
 
   -- two reports by address are alike
-  pub by_address : (lines others : List Line) → AreByAddress image entry g lines → AreByAddress image entry g others → AreAlike lines others
+  pub by_address : (lines others : List Line) → AreByAddress image entry g lines → AreByAddress image entry g others
+      → AreAlike lines others
   by_address lines others are are' =
       let same : listed lines ≡ listed others = same_rising (listed lines) (listed others) are.rising are'.rising
       (λ p has. (are'.all p).1 ((are.all p).0 has)) (λ p has. (are.all p).1 ((are'.all p).0 has)) in

@@ -7,7 +7,8 @@ use Rattle.one_answer.proofs.Listed.{same_rising}
 
 module _ (addresses : List ℕ) (g : Geometry) where
   -- the blocks of a set have one count
-  one_count : (set count number : ℕ) → HaveBlocks addresses g set count → HaveBlocks addresses g set number → count ≡ number
+  one_count : (set count number : ℕ) → HaveBlocks addresses g set count → HaveBlocks addresses g set number
+      → count ≡ number
   one_count set count number (blocks, are, long) (others, are', long') =
       let same : blocks ≡ others = same_rising blocks others are.rising are'.rising
       (λ block has. (are'.members block).1 ((are.members block).0 has))
@@ -24,7 +25,8 @@ module _ (addresses : List ℕ) (g : Geometry) where
   few_in_all_many set count few many = few_many set count (few set many.inside) many
 
   -- none with many comes before the first one
-  not_before : (set count other number : ℕ) → HaveMany addresses g set count → HaveMany addresses g other number → other ≤ set
+  not_before : (set count other number : ℕ) → HaveMany addresses g set count → HaveMany addresses g other number
+      → other ≤ set
   not_before set count other number many many' =
       ⊎_elim
       (λ (before : set < other). absurd (few_many set count (many'.earlier set before) many))
@@ -35,5 +37,9 @@ module _ (addresses : List ℕ) (g : Geometry) where
   pub one_many : (set count other number : ℕ) → HaveMany addresses g set count → HaveMany addresses g other number
       → (set ≡ other) × (count ≡ number)
   one_many set count other number many many' =
-      let same : set ≡ other = omega (arith, not_before set count other number many many', not_before other number set count many' many) in
+      let same : set ≡ other = omega (
+        arith,
+        not_before set count other number many many',
+        not_before other number set count many' many,
+      ) in
       (same, one_count other count number (subst (λ s. HaveBlocks addresses g s count) same many.has) many'.has)

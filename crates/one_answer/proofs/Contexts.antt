@@ -27,7 +27,8 @@ module _ (image : Image) (entry : ℕ) (g : Geometry) where
 
   -- so are all lines of some configurations
   each_line : (number : ℕ) (configurations : List Configuration) (lines others : List Line)
-      → AreContextLines image entry g number configurations lines → AreContextLines image entry g number configurations others
+      → AreContextLines image entry g number configurations lines
+      → AreContextLines image entry g number configurations others
       → AreAlike lines others
   each_line number [] [] [] are are' = refl
   each_line number [] (line ∷ lines) others are are' = absurd are
@@ -38,7 +39,9 @@ module _ (image : Image) (entry : ℕ) (g : Geometry) where
       cc (one_line number c line other are.0 are'.0, each_line (number + 1) later lines others are.1 are'.1)
 
   -- two reports with contexts are alike
-  pub by_context : (lines others : List Line) → AreByContext image entry g lines → AreByContext image entry g others → AreAlike lines others
+  pub by_context : (lines others : List Line) → AreByContext image entry g lines → AreByContext image entry g others
+      → AreAlike lines others
   by_context lines others (layers, accepted, are) (layers', accepted', are') =
-      let same : all_of layers' ≡ all_of layers = one_numbering (successors image entry) entry image layers' layers accepted' accepted in
+      let same : all_of layers' ≡ all_of layers =
+      one_numbering (successors image entry) entry image layers' layers accepted' accepted in
       each_line 0 (all_of layers) lines others are (subst (λ cs. AreContextLines image entry g 0 cs others) same are')

@@ -24,7 +24,8 @@ AreApart [] = Unit {0}
 AreApart (x ∷ xs) = (Contains xs x → ⊥) × AreApart xs
 
 -- one that is found at two places is found at one
-one_place : {A : Type 0} (xs : List A) (n m : ℕ) (x : A) → AreApart xs → slice_get xs n ≡ Some x → slice_get xs m ≡ Some x → n ≡ m
+one_place : {A : Type 0} (xs : List A) (n m : ℕ) (x : A) → AreApart xs → slice_get xs n ≡ Some x
+    → slice_get xs m ≡ Some x → n ≡ m
 one_place [] n m x apart is is' = absurd (cc is)
 one_place (y ∷ xs) zero zero x apart is is' = refl
 one_place (y ∷ xs) zero (suc m) x apart is is' =
@@ -34,7 +35,8 @@ one_place (y ∷ xs) (suc n) zero x apart is is' =
 one_place (y ∷ xs) (suc n) (suc m) x apart is is' = ap suc (one_place xs n m x apart.1 is is')
 
 -- lists of which nothing is in both, one after the other
-apart-append : {A : Type 0} (xs ys : List A) → AreApart xs → AreApart ys → ((x : A) → Contains xs x → Contains ys x → ⊥) → AreApart (xs ++ ys)
+apart-append : {A : Type 0} (xs ys : List A) → AreApart xs → AreApart ys → ((x : A) → Contains xs x → Contains ys x → ⊥)
+    → AreApart (xs ++ ys)
 apart-append [] ys first second none = second
 apart-append (x ∷ xs) ys first second none = (
   λ has. elim (Contains-append_cases xs ys x has) [
@@ -49,7 +51,8 @@ apart-sorted : (cs : List Configuration) → IsStrictlySortedBy configuration_cm
 unfolding IsStrictlySortedBy
 apart-sorted [] sorted = tt
 apart-sorted (c ∷ cs) sorted = (
-  λ has. let less = each-has (λ d. configuration_cmp c d ≡ Less) cs sorted.0 c has in one_way configuration_cmp configurations_total c c less less,
+  λ has. let less = each-has (λ d. configuration_cmp c d ≡ Less) cs sorted.0 c has in one_way configuration_cmp
+      configurations_total c c less less,
   apart-sorted cs sorted.1,
 )
 
@@ -58,7 +61,8 @@ module _ (step : Step) (entry : ℕ) where
   Are n layers = AreLayersFrom step (start_of entry) configuration_cmp n layers
 
   -- a configuration of some layers is in one of them
-  in_some : (n : ℕ) (layers : List (List Configuration)) → Are n layers → (c : Configuration) → Contains (all_of layers) c
+  in_some : (n : ℕ) (layers : List (List Configuration)) → Are n layers → (c : Configuration)
+      → Contains (all_of layers) c
       → (m : ℕ) × (n ≤ m) × IsInLayer step (start_of entry) m c
   in_some n [] are c (k, lt, is) = absurd (omega (arith, lt))
   in_some n (layer ∷ layers) are c has = elim (Contains-append_cases layer (all_of layers) c has) [
@@ -98,7 +102,8 @@ module _ (step : Step) (entry : ℕ) where
 
     -- the list of both determines two edges
     one_pair : (next taken next' taken' : Option ℕ) → (next ≡ None → taken ≡ None) → (next' ≡ None → taken' ≡ None)
-        → option_to_list next ++ option_to_list taken ≡ option_to_list next' ++ option_to_list taken' → (next ≡ next') × (taken ≡ taken')
+        → option_to_list next ++ option_to_list taken ≡ option_to_list next' ++ option_to_list taken'
+        → (next ≡ next') × (taken ≡ taken')
     one_pair None None None None first first' same = (refl, refl)
     one_pair None None None (Some t) first first' same = absurd (cc same)
     one_pair None None (Some n) taken' first first' same = absurd (cc same)
@@ -117,8 +122,10 @@ module _ (step : Step) (entry : ℕ) where
         let (next, goes, are) = is.goes in
         let (next', goes', are') = is'.goes in
         let same : next' ≡ next = cc (goes, goes') in
-        let listed : option_to_list line.next ++ option_to_list line.taken ≡ option_to_list other.next ++ option_to_list other.taken =
-        one_list (option_to_list line.next ++ option_to_list line.taken) (option_to_list other.next ++ option_to_list other.taken) next are
+        let listed : option_to_list line.next ++ option_to_list line.taken ≡ option_to_list other.next
+        ++ option_to_list other.taken =
+        one_list (option_to_list line.next ++ option_to_list line.taken)
+        (option_to_list other.next ++ option_to_list other.taken) next are
         (are' ∙ ap (map Some) same) in
         let (first, second) = one_pair line.next line.taken other.next other.taken is.first is'.first listed in
         let node : line.node ≡ other.node = is.node ∙ sym is'.node in
@@ -128,8 +135,10 @@ module _ (step : Step) (entry : ℕ) where
         cc (node, at, depth, back, first, second)
 
     -- so have all lines of some configurations
-    one_text : (number : ℕ) (cs : List Configuration) (lines others : List GraphLine) → AreGraphLines step configurations number cs lines
-        → AreGraphLines step configurations number cs others → flat_map graph_line_text lines ≡ flat_map graph_line_text others
+    one_text : (number : ℕ) (cs : List Configuration) (lines others : List GraphLine)
+        → AreGraphLines step configurations number cs lines
+        → AreGraphLines step configurations number cs others
+        → flat_map graph_line_text lines ≡ flat_map graph_line_text others
     one_text number [] [] [] are are' = refl
     one_text number [] (line ∷ lines) others are are' = absurd are
     one_text number [] [] (other ∷ others) are are' = absurd are'
@@ -139,10 +148,12 @@ module _ (step : Step) (entry : ℕ) where
         cc (one_line number c line other are.0 are'.0, one_text (number + 1) cs lines others are.1 are'.1)
 
 -- the text of a graph is one
-pub one_graph_text : (image : Image) (entry : ℕ) (text other : List ℕ) → IsGraphText image entry text → IsGraphText image entry other → text ≡ other
+pub one_graph_text : (image : Image) (entry : ℕ) (text other : List ℕ) → IsGraphText image entry text
+    → IsGraphText image entry other → text ≡ other
 one_graph_text image entry text other (layers, accepted, (lines, are, is)) (layers', accepted', (lines', are', is')) =
     let step = successors image entry in
     let same : all_of layers' ≡ all_of layers = one_numbering step entry image layers' layers accepted' accepted in
-    let apart : AreApart (all_of layers) = layers_apart step entry 0 layers (front step entry 0 layers ([] ∷ []) accepted.are_layers) in
+    let apart : AreApart (all_of layers) =
+    layers_apart step entry 0 layers (front step entry 0 layers ([] ∷ []) accepted.are_layers) in
     is ∙ one_text step entry (all_of layers) apart 0 (all_of layers) lines lines' are
     (subst (λ cs. AreGraphLines step cs 0 cs lines') same are') ∙ sym is'

@@ -13,15 +13,18 @@ use Rattle.one_answer.proofs.Listed.{same_sorted}
 abbrev pub EndsWithin : {C : Type 0} → List (List C) → List C → List (List C) → Type 0
 EndsWithin {C} earlier last others = (rest : List (List C)) × (others ≡ earlier ++ last ∷ rest)
 
-module _ {C F : Type 0} (step : C → Result (List C) F) (start : C) (order : C → C → Ordering) (total : IsTotalOrder order) where
+module _ {C F : Type 0} (step : C → Result (List C) F) (start : C) (order : C → C → Ordering)
+    (total : IsTotalOrder order) where
   -- a layer has one list
-  pub one_layer : (n : ℕ) (layer other : List C) → IsLayer step start order n layer → IsLayer step start order n other → layer ≡ other
+  pub one_layer : (n : ℕ) (layer other : List C) → IsLayer step start order n layer → IsLayer step start order n other
+      → layer ≡ other
   one_layer n layer other is is' =
       same_sorted order total layer other is.sorted is'.sorted (λ c has. (is'.members c).1 ((is.members c).0 has))
       (λ c has. (is.members c).1 ((is'.members c).0 has))
 
   -- a member of the next layer follows one of the layer
-  from_layer : (n : ℕ) (c : C) → ((m : ℕ) → m < n + 1 → IsReachedIn step start m c → ⊥) → (earlier : List C) → length earlier ≡ n + 1
+  from_layer : (n : ℕ) (c : C) → ((m : ℕ) → m < n + 1 → IsReachedIn step start m c → ⊥) → (earlier : List C)
+      → length earlier ≡ n + 1
       → IsPath step start (c ∷ earlier) → (b : C) × IsInLayer step start n b
   from_layer n c no_sooner [] long path = absurd (omega (arith, long))
   from_layer n c no_sooner (b ∷ earlier) long path = (
@@ -34,7 +37,8 @@ module _ {C F : Type 0} (step : C → Result (List C) F) (start : C) (order : C 
   )
 
   -- after an empty layer comes an empty one
-  none_next : (n : ℕ) (layer : List C) → IsLayer step start order n [] → IsLayer step start order (n + 1) layer → layer ≡ []
+  none_next : (n : ℕ) (layer : List C) → IsLayer step start order n [] → IsLayer step start order (n + 1) layer
+      → layer ≡ []
   none_next n layer empty is =
       empty-none layer (λ c has.
       let it = (is.members c).0 has in
@@ -43,7 +47,8 @@ module _ {C F : Type 0} (step : C → Result (List C) F) (start : C) (order : C 
       let (k, lt, at) = (empty.members b).1 before in omega (arith, lt))
 
   -- and so all after it are
-  pub none_behind : (n : ℕ) (layers : List (List C)) → IsLayer step start order n [] → AreLayersFrom step start order (n + 1) layers
+  pub none_behind : (n : ℕ) (layers : List (List C)) → IsLayer step start order n []
+      → AreLayersFrom step start order (n + 1) layers
       → AllByRecursion (λ (layer : List C). layer ≡ []) layers
   none_behind n [] empty are = tt
   none_behind n (layer ∷ layers) empty are =
@@ -57,7 +62,8 @@ module _ {C F : Type 0} (step : C → Result (List C) F) (start : C) (order : C 
   none_from n (layer ∷ earlier) rest are = none_from (n + 1) earlier rest are.1
 
   -- of two lists of layers one is as long as the other, or ends within it
-  pub meet : (n : ℕ) (earlier others : List (List C)) (last end : List C) → AreLayersFrom step start order n (earlier ++ last ∷ [])
+  pub meet : (n : ℕ) (earlier others : List (List C)) (last end : List C)
+      → AreLayersFrom step start order n (earlier ++ last ∷ [])
       → AreLayersFrom step start order n (others ++ end ∷ [])
       → ((earlier ≡ others) × (last ≡ end)) ⊎ (EndsWithin earlier last others ⊎ EndsWithin others end earlier)
   meet n [] [] last end are are' = inl (refl, one_layer n last end are.0 are'.0)

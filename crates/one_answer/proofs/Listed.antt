@@ -20,7 +20,8 @@ module _ {A : Type 0} (order : A → A → Ordering) (total : IsTotalOrder order
       absurd (cc (before, turned, reversed))
 
   -- the first of one list is the first of the other
-  same_first : (x y : A) (xs ys : List A) → AllByRecursion (λ z. order x z ≡ Less) xs → AllByRecursion (λ z. order y z ≡ Less) ys
+  same_first : (x y : A) (xs ys : List A) → AllByRecursion (λ z. order x z ≡ Less) xs
+      → AllByRecursion (λ z. order y z ≡ Less) ys
       → Contains (y ∷ ys) x → Contains (x ∷ xs) y → x ≡ y
   same_first x y xs ys before before' has has' = elim (has-cases y x ys has) [
     | inl same ↦ same
@@ -47,10 +48,13 @@ module _ {A : Type 0} (order : A → A → Ordering) (total : IsTotalOrder order
       → ((z : A) → Contains xs z → Contains ys z) → ((z : A) → Contains ys z → Contains xs z) → xs ≡ ys
   unfolding IsStrictlySortedBy
   same_sorted [] [] sorted sorted' there back = refl
-  same_sorted [] (y ∷ ys) sorted sorted' there back = sym (empty-none (y ∷ ys) (λ z has. let (k, lt, is) = back z has in omega (arith, lt)))
-  same_sorted (x ∷ xs) [] sorted sorted' there back = empty-none (x ∷ xs) (λ z has. let (k, lt, is) = there z has in omega (arith, lt))
+  same_sorted [] (y ∷ ys) sorted sorted' there back =
+      sym (empty-none (y ∷ ys) (λ z has. let (k, lt, is) = back z has in omega (arith, lt)))
+  same_sorted (x ∷ xs) [] sorted sorted' there back =
+      empty-none (x ∷ xs) (λ z has. let (k, lt, is) = there z has in omega (arith, lt))
   same_sorted (x ∷ xs) (y ∷ ys) sorted sorted' there back =
-      let first : x ≡ y = same_first x y xs ys sorted.0 sorted'.0 (there x (has-first x xs)) (back y (has-first y ys)) in
+      let first : x ≡ y = same_first x y xs ys sorted.0 sorted'.0 (there x (has-first x xs))
+      (back y (has-first y ys)) in
       let rest : xs ≡ ys =
       same_sorted xs ys sorted.1 sorted'.1 (same_later x y xs ys first sorted.0 there)
       (same_later y x ys xs (sym first) sorted'.0 back) in
@@ -60,4 +64,5 @@ module _ {A : Type 0} (order : A → A → Ordering) (total : IsTotalOrder order
 pub same_rising : (xs ys : List ℕ) → IsStrictlyIncreasing xs → IsStrictlyIncreasing ys
     → ((z : ℕ) → Contains xs z → Contains ys z) → ((z : ℕ) → Contains ys z → Contains xs z) → xs ≡ ys
 same_rising xs ys rising rising' there back =
-    same_sorted nat_cmp nat_cmp_total xs ys (sorted_from_strictly_increasing xs rising) (sorted_from_strictly_increasing ys rising') there back
+    same_sorted nat_cmp nat_cmp_total xs ys (sorted_from_strictly_increasing xs rising)
+    (sorted_from_strictly_increasing ys rising') there back

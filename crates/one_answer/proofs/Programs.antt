@@ -18,11 +18,13 @@ use Rattle.call_expand.proofs.Zipped.{all-front, all-back}
 use Rattle.one_answer.proofs.Layers.{EndsWithin, none_from, meet}
 
 -- the configurations of layers that go on after some
-all_split : (earlier rest : List (List Configuration)) (last : List Configuration) → all_of (earlier ++ last ∷ rest) ≡ all_of earlier ++ (last ++ all_of rest)
+all_split : (earlier rest : List (List Configuration)) (last : List Configuration)
+    → all_of (earlier ++ last ∷ rest) ≡ all_of earlier ++ (last ++ all_of rest)
 all_split earlier rest last = flat_map-append (λ (layer : List Configuration). layer) earlier (last ∷ rest)
 
 -- empty layers have none
-all_none : (layers : List (List Configuration)) → AllByRecursion (λ (layer : List Configuration). layer ≡ []) layers → all_of layers ≡ []
+all_none : (layers : List (List Configuration)) → AllByRecursion (λ (layer : List Configuration). layer ≡ []) layers
+    → all_of layers ≡ []
 all_none [] none = refl
 all_none (layer ∷ layers) none = cc (none.0, all_none layers none.1)
 
@@ -37,28 +39,34 @@ module _ (step : Step) where
   no_fault c fault (Err other) is ok faulty = absurd (cc ok)
 
   -- no faulty one is among faultless ones
-  faulty_among : (cs : List Configuration) (c : Configuration) (fault : FlowFault) → AllByRecursion (IsFaultless step) cs → Contains cs c
+  faulty_among : (cs : List Configuration) (c : Configuration) (fault : FlowFault)
+      → AllByRecursion (IsFaultless step) cs → Contains cs c
       → step c ≡ Err fault → ⊥
-  faulty_among cs c fault all has faulty = no_fault c fault (step c) refl (each-has (IsFaultless step) cs all c has) faulty
+  faulty_among cs c fault all has faulty =
+      no_fault c fault (step c) refl (each-has (IsFaultless step) cs all c has) faulty
 
   -- the first faulty one is one, by the first of both lists
   first_faulty : (before before' after after' : List Configuration) (c c' : Configuration) (fault fault' : FlowFault)
-      → before ++ c ∷ after ≡ before' ++ c' ∷ after' → AllByRecursion (IsFaultless step) before → AllByRecursion (IsFaultless step) before'
+      → before ++ c ∷ after ≡ before' ++ c' ∷ after' → AllByRecursion (IsFaultless step) before
+      → AllByRecursion (IsFaultless step) before'
       → step c ≡ Err fault → step c' ≡ Err fault' → fault ≡ fault'
   first_faulty [] [] after after' c c' fault fault' same all all' faulty faulty' =
       let one : c ≡ c' = cc same in cc (one, faulty, faulty')
   first_faulty [] (b ∷ before') after after' c c' fault fault' same all all' faulty faulty' =
       let one : c ≡ b = cc same in
-      absurd (faulty_among (b ∷ before') c fault all' (subst (λ d. Contains (b ∷ before') d) (sym one) (has-first b before')) faulty)
+      absurd (faulty_among (b ∷ before') c fault all' (subst (λ d. Contains (b ∷ before') d) (sym one)
+      (has-first b before')) faulty)
   first_faulty (b ∷ before) [] after after' c c' fault fault' same all all' faulty faulty' =
       let one : b ≡ c' = cc same in
-      absurd (faulty_among (b ∷ before) c' fault' all (subst (λ d. Contains (b ∷ before) d) one (has-first b before)) faulty')
+      absurd (faulty_among (b ∷ before) c' fault' all (subst (λ d. Contains (b ∷ before) d) one (has-first b before))
+      faulty')
   first_faulty (b ∷ before) (b' ∷ before') after after' c c' fault fault' same all all' faulty faulty' =
       let rest : before ++ c ∷ after ≡ before' ++ c' ∷ after' = cc same in
       first_faulty before before' after after' c c' fault fault' rest all.1 all'.1 faulty faulty'
 
   -- a configuration of the layer with which some end is among those that go on
-  ends_among : (earlier others : List (List Configuration)) (last : List Configuration) (c : Configuration) → EndsWithin earlier last others
+  ends_among : (earlier others : List (List Configuration)) (last : List Configuration) (c : Configuration)
+      → EndsWithin earlier last others
       → Contains last c → Contains (all_of others) c
   ends_among earlier others last c (rest, is) has =
       subst (λ (cs : List Configuration). Contains cs c) (sym (ap all_of is ∙ all_split earlier rest last))
@@ -82,33 +90,44 @@ module _ (step : Step) where
     Are layers = AreLayersFrom step (start_of entry) configuration_cmp 0 layers
 
     -- what two lists of layers of it are to one another
-    met : (earlier others : List (List Configuration)) (last end : List Configuration) → Are (earlier ++ last ∷ []) → Are (others ++ end ∷ [])
+    met : (earlier others : List (List Configuration)) (last end : List Configuration) → Are (earlier ++ last ∷ [])
+        → Are (others ++ end ∷ [])
         → ((earlier ≡ others) × (last ≡ end)) ⊎ (EndsWithin earlier last others ⊎ EndsWithin others end earlier)
-    met earlier others last end = meet step (start_of entry) configuration_cmp configurations_total 0 earlier others last end
+    met earlier others last end = meet step (start_of entry) configuration_cmp configurations_total 0 earlier others
+        last end
 
     -- layers that go on after an empty one go on with empty ones
-    behind_empty : (earlier others : List (List Configuration)) (end : List Configuration) → EndsWithin earlier [] others → Are (others ++ end ∷ [])
+    behind_empty : (earlier others : List (List Configuration)) (end : List Configuration)
+        → EndsWithin earlier [] others → Are (others ++ end ∷ [])
         → (rest : List (List Configuration)) × (others ≡ earlier ++ [] ∷ rest)
         × AllByRecursion (λ (layer : List Configuration). layer ≡ []) (rest ++ end ∷ [])
     behind_empty earlier others end (rest, is) are =
-        let split : others ++ end ∷ [] ≡ earlier ++ [] ∷ (rest ++ end ∷ []) = ap (λ l. l ++ end ∷ []) is ∙ append_assoc earlier ([] ∷ rest) (end ∷ []) in
-        (rest, is, none_from step (start_of entry) configuration_cmp configurations_total 0 earlier (rest ++ end ∷ []) (subst Are split are))
+        let split : others ++ end ∷ [] ≡ earlier ++ [] ∷ (rest ++ end ∷ []) =
+        ap (λ l. l ++ end ∷ []) is ∙ append_assoc earlier ([] ∷ rest) (end ∷ []) in (
+          rest,
+          is,
+          none_from step (start_of entry) configuration_cmp configurations_total 0 earlier (rest ++ end ∷ [])
+              (subst Are split are),
+        )
 
     -- so the last of them is empty
-    last_empty : (earlier others : List (List Configuration)) (end : List Configuration) → EndsWithin earlier [] others → Are (others ++ end ∷ [])
+    last_empty : (earlier others : List (List Configuration)) (end : List Configuration) → EndsWithin earlier [] others
+        → Are (others ++ end ∷ [])
         → end ≡ []
     last_empty earlier others end within are =
         let (rest, is, none) = behind_empty earlier others end within are in
         (all-back (λ (layer : List Configuration). layer ≡ []) rest (end ∷ []) none).0
 
     -- and they have no more configurations
-    none_more : (earlier others : List (List Configuration)) (end : List Configuration) → EndsWithin earlier [] others → Are (others ++ end ∷ [])
+    none_more : (earlier others : List (List Configuration)) (end : List Configuration) → EndsWithin earlier [] others
+        → Are (others ++ end ∷ [])
         → all_of others ≡ all_of earlier
     none_more earlier others end within are =
         let (rest, is, none) = behind_empty earlier others end within are in
         ap all_of is
         ∙ all_split earlier rest []
-        ∙ ap (λ (cs : List Configuration). all_of earlier ++ cs) (all_none rest (all-front (λ (layer : List Configuration). layer ≡ []) rest (end ∷ []) none))
+        ∙ ap (λ (cs : List Configuration). all_of earlier ++ cs)
+        (all_none rest (all-front (λ (layer : List Configuration). layer ≡ []) rest (end ∷ []) none))
         ∙ append-nil (all_of earlier)
 
     module _ (image : Image) where
@@ -118,13 +137,16 @@ module _ (step : Step) where
       good_and_bad false is not_so = absurd (cc is)
 
       -- an accepted program has no faulty configuration
-      accepted_faulty : (layers earlier : List (List Configuration)) (before after : List Configuration) (c : Configuration) (fault : FlowFault)
-          → IsAccepted step image entry layers → IsFirstFaulty step image entry earlier before c after → step c ≡ Err fault → ⊥
+      accepted_faulty : (layers earlier : List (List Configuration)) (before after : List Configuration)
+          (c : Configuration) (fault : FlowFault)
+          → IsAccepted step image entry layers → IsFirstFaulty step image entry earlier before c after
+          → step c ≡ Err fault → ⊥
       accepted_faulty layers earlier before after c fault accepted first faulty =
           elim (met layers earlier [] (before ++ c ∷ after) accepted.are_layers first.are_layers) [
             | inl (same, empty) ↦ omega (arith, ap length empty, length-append before (c ∷ after))
             | inr (inl within) ↦
-                let empty : before ++ c ∷ after ≡ [] = last_empty layers earlier (before ++ c ∷ after) within first.are_layers in
+                let empty : before ++ c ∷ after ≡ [] =
+                last_empty layers earlier (before ++ c ∷ after) within first.are_layers in
                 omega (arith, ap length empty, length-append before (c ∷ after))
             | inr (inr within) ↦
                 faulty_among (all_of layers) c fault accepted.faultless
@@ -132,11 +154,18 @@ module _ (step : Step) where
           ]
 
       -- and doesn't pass the limit
-      accepted_many : (layers earlier : List (List Configuration)) (last : List Configuration) → IsAccepted step image entry layers
+      accepted_many : (layers earlier : List (List Configuration)) (last : List Configuration)
+          → IsAccepted step image entry layers
           → PassesLimit step image entry earlier last → ⊥
       accepted_many layers earlier last accepted passes =
           elim (met layers earlier [] last accepted.are_layers passes.are_layers) [
-            | inl (same, empty) ↦ omega (arith, passes.few, passes.many, ap length (sym empty), length-append (all_of earlier) last)
+            | inl (same, empty) ↦ omega (
+              arith,
+              passes.few,
+              passes.many,
+              ap length (sym empty),
+              length-append (all_of earlier) last,
+            )
             | inr (inl within) ↦
                 let empty : last ≡ [] = last_empty layers earlier last within passes.are_layers in
                 omega (arith, passes.few, passes.many, ap length empty, length-append (all_of earlier) last)
@@ -144,15 +173,19 @@ module _ (step : Step) where
           ]
 
       -- so it isn't refused
-      pub accepted_refused : (layers : List (List Configuration)) (fault : FlowFault) → IsAccepted step image entry layers
+      pub accepted_refused : (layers : List (List Configuration)) (fault : FlowFault)
+          → IsAccepted step image entry layers
           → IsRefused step image entry fault → ⊥
-      accepted_refused layers fault accepted (inl (bad, is)) = good_and_bad (is_good_target image entry) accepted.entry_is_good bad
+      accepted_refused layers fault accepted (inl (bad, is)) =
+          good_and_bad (is_good_target image entry) accepted.entry_is_good bad
       accepted_refused layers fault accepted (inr (inl (earlier, before, c, after, first, faulty))) =
           accepted_faulty layers earlier before after c fault accepted first faulty
-      accepted_refused layers fault accepted (inr (inr (earlier, last, passes, is))) = accepted_many layers earlier last accepted passes
+      accepted_refused layers fault accepted (inr (inr (earlier, last, passes, is))) =
+          accepted_many layers earlier last accepted passes
 
       -- its configurations are numbered in one way
-      pub one_numbering : (layers others : List (List Configuration)) → IsAccepted step image entry layers → IsAccepted step image entry others
+      pub one_numbering : (layers others : List (List Configuration)) → IsAccepted step image entry layers
+          → IsAccepted step image entry others
           → all_of layers ≡ all_of others
       one_numbering layers others accepted accepted' =
           elim (met layers others [] [] accepted.are_layers accepted'.are_layers) [
@@ -162,8 +195,10 @@ module _ (step : Step) where
           ]
 
       -- two first faulty configurations have one fault
-      faulty_faulty : (earlier others : List (List Configuration)) (before before' after after' : List Configuration) (c c' : Configuration)
-          (fault other : FlowFault) → IsFirstFaulty step image entry earlier before c after → IsFirstFaulty step image entry others before' c' after'
+      faulty_faulty : (earlier others : List (List Configuration)) (before before' after after' : List Configuration)
+          (c c' : Configuration)
+          (fault other : FlowFault) → IsFirstFaulty step image entry earlier before c after → IsFirstFaulty step image
+          entry others before' c' after'
           → step c ≡ Err fault → step c' ≡ Err other → fault ≡ other
       faulty_faulty earlier others before before' after after' c c' fault other first first' faulty faulty' =
           elim (met earlier others (before ++ c ∷ after) (before' ++ c' ∷ after') first.are_layers first'.are_layers) [
@@ -172,16 +207,20 @@ module _ (step : Step) where
                 (all-back (IsFaultless step) (all_of earlier) before first.faultless)
                 (all-back (IsFaultless step) (all_of others) before' first'.faultless) faulty faulty'
             | inr (inl within) ↦
-                absurd (faulty_among (all_of others) c fault (all-front (IsFaultless step) (all_of others) before' first'.faultless)
+                absurd (faulty_among (all_of others) c fault (all-front (IsFaultless step) (all_of others) before'
+                first'.faultless)
                 (ends_among earlier others (before ++ c ∷ after) c within (in_middle before after c)) faulty)
             | inr (inr within) ↦
-                absurd (faulty_among (all_of earlier) c' other (all-front (IsFaultless step) (all_of earlier) before first.faultless)
+                absurd (faulty_among (all_of earlier) c' other (all-front (IsFaultless step) (all_of earlier) before
+                first.faultless)
                 (ends_among others earlier (before' ++ c' ∷ after') c' within (in_middle before' after' c')) faulty')
           ]
 
       -- the limit isn't passed where there is a first faulty configuration
-      faulty_many : (earlier others : List (List Configuration)) (before after last : List Configuration) (c : Configuration) (fault : FlowFault)
-          → IsFirstFaulty step image entry earlier before c after → step c ≡ Err fault → PassesLimit step image entry others last → ⊥
+      faulty_many : (earlier others : List (List Configuration)) (before after last : List Configuration)
+          (c : Configuration) (fault : FlowFault)
+          → IsFirstFaulty step image entry earlier before c after → step c ≡ Err fault
+          → PassesLimit step image entry others last → ⊥
       faulty_many earlier others before after last c fault first faulty passes =
           elim (met earlier others (before ++ c ∷ after) last first.are_layers passes.are_layers) [
             | inl (same, ends) ↦
@@ -191,11 +230,18 @@ module _ (step : Step) where
                 faulty_among (all_of others) c fault passes.faultless
                 (ends_among earlier others (before ++ c ∷ after) c within (in_middle before after c)) faulty
             | inr (inr within) ↦
-                omega (arith, first.few, passes.many, ends_fewer others earlier last within, length-append (all_of earlier) (before ++ c ∷ after))
+                omega (
+                  arith,
+                  first.few,
+                  passes.many,
+                  ends_fewer others earlier last within,
+                  length-append (all_of earlier) (before ++ c ∷ after),
+                )
           ]
 
       -- a refused program has one fault
-      pub one_fault : (fault other : FlowFault) → IsRefused step image entry fault → IsRefused step image entry other → fault ≡ other
+      pub one_fault : (fault other : FlowFault) → IsRefused step image entry fault → IsRefused step image entry other
+          → fault ≡ other
       one_fault fault other (inl (bad, is)) (inl (bad', is')) = cc (is, is')
       one_fault fault other (inl (bad, is)) (inr (inl (earlier, before, c, after, first, faulty))) =
           absurd (good_and_bad (is_good_target image entry) first.entry_is_good bad)
@@ -203,12 +249,16 @@ module _ (step : Step) where
           absurd (good_and_bad (is_good_target image entry) passes.entry_is_good bad)
       one_fault fault other (inr (inl (earlier, before, c, after, first, faulty))) (inl (bad, is)) =
           absurd (good_and_bad (is_good_target image entry) first.entry_is_good bad)
-      one_fault fault other (inr (inl (earlier, before, c, after, first, faulty))) (inr (inl (others, before', c', after', first', faulty'))) =
+      one_fault fault other (inr (inl (earlier, before, c, after, first, faulty)))
+          (inr (inl (others, before', c', after', first', faulty'))) =
           faulty_faulty earlier others before before' after after' c c' fault other first first' faulty faulty'
-      one_fault fault other (inr (inl (earlier, before, c, after, first, faulty))) (inr (inr (others, last, passes, is))) =
+      one_fault fault other (inr (inl (earlier, before, c, after, first, faulty)))
+          (inr (inr (others, last, passes, is))) =
           absurd (faulty_many earlier others before after last c fault first faulty passes)
       one_fault fault other (inr (inr (others, last, passes, is))) (inl (bad, is')) =
           absurd (good_and_bad (is_good_target image entry) passes.entry_is_good bad)
-      one_fault fault other (inr (inr (others, last, passes, is))) (inr (inl (earlier, before, c, after, first, faulty))) =
+      one_fault fault other (inr (inr (others, last, passes, is)))
+          (inr (inl (earlier, before, c, after, first, faulty))) =
           absurd (faulty_many earlier others before after last c other first faulty passes)
-      one_fault fault other (inr (inr (others, last, passes, is))) (inr (inr (earlier, end, passes', is'))) = cc (is, is')
+      one_fault fault other (inr (inr (others, last, passes, is))) (inr (inr (earlier, end, passes', is'))) =
+          cc (is, is')

@@ -31,12 +31,14 @@ module _ (image : Image) (entry : ℕ) (g : Geometry) (Ends : Configuration → 
   -- not always a hit where a way leads to a miss
   hits_way : (way : Way) → IsAlwaysHit g Fetched → NamesFate image entry g Ends way false → ⊥
   hits_way way hits named =
-      hit_and_miss (ends_in_hit g (fetches_of named.path)) (hits.each (fetches_of named.path) (named.path, named.ends_in, refl)) named.fate
+      hit_and_miss (ends_in_hit g (fetches_of named.path))
+      (hits.each (fetches_of named.path) (named.path, named.ends_in, refl)) named.fate
 
   -- not always a miss where a way leads to a hit
   misses_way : (way : Way) → IsAlwaysMiss g Fetched → NamesFate image entry g Ends way true → ⊥
   misses_way way misses named =
-      hit_and_miss (ends_in_hit g (fetches_of named.path)) named.fate (misses.each (fetches_of named.path) (named.path, named.ends_in, refl))
+      hit_and_miss (ends_in_hit g (fetches_of named.path)) named.fate
+      (misses.each (fetches_of named.path) (named.path, named.ends_in, refl))
 
   -- two right verdicts are one, but for their ways
   pub one_verdict : (verdict other : Verdict) → IsRight image entry g Ends verdict → IsRight image entry g Ends other

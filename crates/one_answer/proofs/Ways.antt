@@ -31,7 +31,8 @@ module _ {C F : Type 0} (step : C → Result (List C) F) (start : C) (few : AreF
   -- from one state, letters that begin alike lead to one state
   one_move : (c d d' : C) (letter letter' rest rest' : List ℕ) (next : Result (List C) F) → step c ≡ next
       → IsOkAnd next (λ successors. Contains successors d) → IsOkAnd next (λ successors. Contains successors d')
-      → IsLetter next d letter → IsLetter next d' letter' → letter ++ rest ≡ letter' ++ rest' → (d ≡ d') × (letter ≡ letter')
+      → IsLetter next d letter → IsLetter next d' letter' → letter ++ rest ≡ letter' ++ rest'
+      → (d ≡ d') × (letter ≡ letter')
   one_move c d d' letter letter' rest rest' (Err fault) goes leads leads' is is' same = absurd leads
   one_move c d d' letter letter' rest rest' (Ok []) goes leads leads' is is' same = absurd (has-none d leads)
   one_move c d d' letter letter' rest rest' (Ok (first ∷ [])) goes leads leads' is is' same =
@@ -42,76 +43,93 @@ module _ {C F : Type 0} (step : C → Result (List C) F) (start : C) (few : AreF
           | inl at' ↦ (cc (at, at'), cc (is, is'))
         ]
       ]
-  one_move c d d' letter letter' rest rest' (Ok (first ∷ second ∷ [])) goes leads leads' (inl (at, is)) (inl (at', is')) same =
+  one_move c d d' letter letter' rest rest' (Ok (first ∷ second ∷ [])) goes leads leads' (inl (at, is)) (inl (at', is'))
+      same =
       (at ∙ sym at', is ∙ sym is')
-  one_move c d d' letter letter' rest rest' (Ok (first ∷ second ∷ [])) goes leads leads' (inl (at, is)) (inr (at', is')) same =
+  one_move c d d' letter letter' rest rest' (Ok (first ∷ second ∷ [])) goes leads leads' (inl (at, is)) (inr (at', is'))
+      same =
       absurd (apart 110 116 rest rest' (cc (is, is', same)) (λ heads. omega (arith, heads)))
-  one_move c d d' letter letter' rest rest' (Ok (first ∷ second ∷ [])) goes leads leads' (inr (at, is)) (inl (at', is')) same =
+  one_move c d d' letter letter' rest rest' (Ok (first ∷ second ∷ [])) goes leads leads' (inr (at, is)) (inl (at', is'))
+      same =
       absurd (apart 116 110 rest rest' (cc (is, is', same)) (λ heads. omega (arith, heads)))
-  one_move c d d' letter letter' rest rest' (Ok (first ∷ second ∷ [])) goes leads leads' (inr (at, is)) (inr (at', is')) same =
+  one_move c d d' letter letter' rest rest' (Ok (first ∷ second ∷ [])) goes leads leads' (inr (at, is)) (inr (at', is'))
+      same =
       (at ∙ sym at', is ∙ sym is')
   one_move c d d' letter letter' rest rest' (Ok (first ∷ second ∷ third ∷ others)) goes leads leads' is is' same =
       absurd (few c first second third others goes)
 
   -- paths as long as each other, whose choices begin alike, are one
-  one_course : (path other : List C) (choices choices' rest rest' : List ℕ) → IsPath step start path → IsPath step start other
-      → length path ≡ length other → HasChoices step path choices → HasChoices step other choices' → choices ++ rest ≡ choices' ++ rest'
+  one_course : (path other : List C) (choices choices' rest rest' : List ℕ) → IsPath step start path
+      → IsPath step start other
+      → length path ≡ length other → HasChoices step path choices → HasChoices step other choices'
+      → choices ++ rest ≡ choices' ++ rest'
       → (path ≡ other) × (choices ≡ choices')
   one_course [] other choices choices' rest rest' path_is other_is long has has' same = absurd path_is
   one_course (c ∷ []) [] choices choices' rest rest' path_is other_is long has has' same = absurd other_is
   one_course (c ∷ []) (c' ∷ []) choices choices' rest rest' path_is other_is long has has' same =
       let one : c ≡ c' = path_is ∙ sym other_is in (ap (λ x. x ∷ []) one, has ∙ sym has')
-  one_course (c ∷ []) (d' ∷ c' ∷ earlier') choices choices' rest rest' path_is other_is long has has' same = absurd (omega (arith, long))
+  one_course (c ∷ []) (d' ∷ c' ∷ earlier') choices choices' rest rest' path_is other_is long has has' same =
+      absurd (omega (arith, long))
   one_course (d ∷ c ∷ earlier) [] choices choices' rest rest' path_is other_is long has has' same = absurd other_is
-  one_course (d ∷ c ∷ earlier) (d' ∷ []) choices choices' rest rest' path_is other_is long has has' same = absurd (omega (arith, long))
+  one_course (d ∷ c ∷ earlier) (d' ∷ []) choices choices' rest rest' path_is other_is long has has' same =
+      absurd (omega (arith, long))
   one_course (d ∷ c ∷ earlier) (d' ∷ c' ∷ earlier') choices choices' rest rest' path_is other_is long
       (before, letter, has, is, whole) (before', letter', has', is', whole') same =
       let begun : before ++ (letter ++ rest) ≡ before' ++ (letter' ++ rest') =
       sym (append_assoc before letter rest) ∙ ap (λ l. l ++ rest) (sym whole) ∙ same ∙ ap (λ l. l ++ rest') whole'
       ∙ append_assoc before' letter' rest' in
       let shorter : length (c ∷ earlier) ≡ length (c' ∷ earlier') = omega (arith, long) in
-      let (front, alike) = one_course (c ∷ earlier) (c' ∷ earlier') before before' (letter ++ rest) (letter' ++ rest') path_is.1 other_is.1
+      let (front, alike) = one_course (c ∷ earlier) (c' ∷ earlier') before before' (letter ++ rest) (letter' ++ rest')
+      path_is.1 other_is.1
       shorter has has' begun in
       let from : c' ≡ c = cc front in
       let ends : letter ++ rest ≡ letter' ++ rest' = behind before (letter ++ rest) (letter' ++ rest')
       (begun ∙ ap (λ l. l ++ (letter' ++ rest')) (sym alike)) in
       let Leads : C → Type 0 = λ c. IsSuccessor step c d' in
       let Letter : C → Type 0 = λ c. IsLetter (step c) d' letter' in
-      let (to, letters) = one_move c d d' letter letter' rest rest' (step c) refl path_is.0 (subst Leads from other_is.0) is
+      let (to, letters) = one_move c d d' letter letter' rest rest' (step c) refl path_is.0
+      (subst Leads from other_is.0) is
       (subst Letter from is') ends in
       let both : before ++ letter ≡ before' ++ letter' = cc (alike, letters) in
       (cc (to, front), whole ∙ both ∙ sym whole')
 
   -- a way names one path
-  pub one_path : (way : Way) (path other : List C) → IsPath step start path → IsPath step start other → Names step way path
+  pub one_path : (way : Way) (path other : List C) → IsPath step start path → IsPath step start other
+      → Names step way path
       → Names step way other → path ≡ other
   one_path way path other path_is other_is names names' =
-      (one_course path other way.choices way.choices [] [] path_is other_is (sym names.steps ∙ names'.steps) names.choices names'.choices refl).0
+      (one_course path other way.choices way.choices [] [] path_is other_is (sym names.steps ∙ names'.steps)
+      names.choices names'.choices refl).0
 
 -- a call has one successor, or is recursion
-few_entered : (at : ℕ) (entered : Configuration) (again : Bool) (first second third : Configuration) (others : List Configuration)
+few_entered : (at : ℕ) (entered : Configuration) (again : Bool) (first second third : Configuration)
+    (others : List Configuration)
     → (if again then Err (Recursion at) else Ok (entered ∷ [])) ≡ Ok (first ∷ second ∷ third ∷ others) → ⊥
 few_entered at entered true first second third others is = absurd (cc is)
 few_entered at entered false first second third others is = absurd (cc is)
 
 -- where control goes there are at most two successors
-few_ways : (entry : ℕ) (frames : List Frame) (at : ℕ) (next : Next) (first second third : Configuration) (others : List Configuration)
+few_ways : (entry : ℕ) (frames : List Frame) (at : ℕ) (next : Next) (first second third : Configuration)
+    (others : List Configuration)
     → leads_to entry frames at next ≡ Ok (first ∷ second ∷ third ∷ others) → ⊥
 few_ways entry frames at Ends first second third others is = absurd (cc is)
 few_ways entry frames at (Go target) first second third others is = absurd (cc is)
 few_ways entry frames at (Fork next target) first second third others is = absurd (cc is)
 few_ways entry frames at (Enter target frame) first second third others is =
-    few_entered at (configuration (frames ++ frame ∷ []) target) (is_open entry frames target) first second third others is
+    few_entered at (configuration (frames ++ frame ∷ []) target) (is_open entry frames target) first second third others
+    is
 few_ways entry frames at (Back target) first second third others is = absurd (cc is)
 
-few_by : (entry : ℕ) (c : Configuration) (going : Going) (first second third : Configuration) (others : List Configuration)
+few_by : (entry : ℕ) (c : Configuration) (going : Going) (first second third : Configuration)
+    (others : List Configuration)
     → successors_by entry c going ≡ Ok (first ∷ second ∷ third ∷ others) → ⊥
 few_by entry c (Ok next) first second third others is = few_ways entry c.frames c.at next first second third others is
 few_by entry c (Err fault) first second third others is = absurd (cc is)
 
 few_successors : (image : Image) (entry : ℕ) → AreFew (successors image entry)
 unfolding successors
-few_successors image entry c first second third others is = few_by entry c (next_at image c.at (newest c.frames)) first second third others is
+few_successors image entry c first second third others is =
+    few_by entry c (next_at image c.at (newest c.frames)) first second third others is
 
 -- a way names one path of a program
 pub one_program_path : (image : Image) (entry : ℕ) (way : Way) (path other : List Configuration)

@@ -28,12 +28,15 @@ one-Contains (Some x) m (suc k, below, same) = absurd (omega arith)
 -- a successor that the node has is listed
 listed : (node : Node) (m : ℕ) → LeadsTo node m → Contains (option_to_list node.first ++ option_to_list node.second) m
 listed node m leads = ⊎_elim
-    (λ (same : node.first ≡ Some m). Contains-append_left (option_to_list node.first) (option_to_list node.second) m (Contains-one node.first m same))
-    (λ (same : node.second ≡ Some m). Contains-append_right (option_to_list node.first) (option_to_list node.second) m (Contains-one node.second m same))
+    (λ (same : node.first ≡ Some m). Contains-append_left (option_to_list node.first) (option_to_list node.second) m
+    (Contains-one node.first m same))
+    (λ (same : node.second ≡ Some m). Contains-append_right (option_to_list node.first) (option_to_list node.second) m
+    (Contains-one node.second m same))
     leads
 
 -- a successor that the node names is one
-pub successor-from_node : (nodes : List Node) (n m : ℕ) (node : Node) → slice_get nodes n ≡ Some node → LeadsTo node m → IsSuccessor (graph_step nodes) n m
+pub successor-from_node : (nodes : List Node) (n m : ℕ) (node : Node) → slice_get nodes n ≡ Some node → LeadsTo node m
+    → IsSuccessor (graph_step nodes) n m
 successor-from_node nodes n m node found leads =
     subst (λ (o : Option Node). IsOkAnd (successors o) (λ s. Contains s m)) (sym found) (listed node m leads)
 
@@ -45,7 +48,8 @@ leads_of node m inside = ⊎_elim
     (Contains-append_cases (option_to_list node.first) (option_to_list node.second) m inside)
 
 -- the same, from the answer of the step
-node_of : (o : Option Node) (m : ℕ) → IsOkAnd (successors o) (λ s. Contains s m) → (node : Node) × (o ≡ Some node) × LeadsTo node m
+node_of : (o : Option Node) (m : ℕ) → IsOkAnd (successors o) (λ s. Contains s m)
+    → (node : Node) × (o ≡ Some node) × LeadsTo node m
 node_of None m none = absurd none
 node_of (Some node) m inside = (node, refl, leads_of node m inside)
 
@@ -55,12 +59,14 @@ pub node-from_successor : (nodes : List Node) (n m : ℕ) → IsSuccessor (graph
 node-from_successor nodes n m inside = node_of (slice_get nodes n) m inside
 
 -- the same of a node that is known
-pub leads-from_successor : (nodes : List Node) (n m : ℕ) (node : Node) → slice_get nodes n ≡ Some node → IsSuccessor (graph_step nodes) n m → LeadsTo node m
+pub leads-from_successor : (nodes : List Node) (n m : ℕ) (node : Node) → slice_get nodes n ≡ Some node
+    → IsSuccessor (graph_step nodes) n m → LeadsTo node m
 leads-from_successor nodes n m node found inside =
     leads_of node m (subst (λ (o : Option Node). IsOkAnd (successors o) (λ s. Contains s m)) found inside)
 
 -- where all nodes are fit, each is
-pub fit_at : (nodes : List Node) (count n : ℕ) (node : Node) → IsTrue (list_all (is_fit count) nodes) → slice_get nodes n ≡ Some node → IsTrue (is_fit count node)
+pub fit_at : (nodes : List Node) (count n : ℕ) (node : Node) → IsTrue (list_all (is_fit count) nodes)
+    → slice_get nodes n ≡ Some node → IsTrue (is_fit count node)
 fit_at [] count n node fit found = absurd (cc)
 fit_at (first ∷ nodes) count zero node fit found = grind (arith, common_steps)
 fit_at (first ∷ nodes) count (suc n) node fit found = fit_at nodes count n node (grind (arith, common_steps)) found
@@ -72,7 +78,8 @@ first_below count m (Some x) None fit same = grind (arith, nat_tests)
 first_below count m (Some x) (Some y) fit same = grind (arith, nat_tests)
 
 -- a fit second successor is below the count
-second_below : (count m : ℕ) (first second : Option ℕ) → IsTrue (are_fit count first second) → second ≡ Some m → m < count
+second_below : (count m : ℕ) (first second : Option ℕ) → IsTrue (are_fit count first second) → second ≡ Some m
+    → m < count
 second_below count m None None fit same = absurd (cc)
 second_below count m (Some x) None fit same = absurd (cc)
 second_below count m None (Some y) fit same = absurd (cc)

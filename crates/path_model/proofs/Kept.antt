@@ -14,7 +14,8 @@ after_fetch g set address ways blocks =
     if set_of g (block_of g address) == set then touch ways blocks (block_of g address) else blocks
 
 -- one member further
-pub kept_more : (g : Geometry) (set : ℕ) (nodes : List Node) (path : List ℕ) (i x address ways : ℕ) (old new : List ℕ) → i < length path
+pub kept_more : (g : Geometry) (set : ℕ) (nodes : List Node) (path : List ℕ) (i x address ways : ℕ) (old new : List ℕ)
+    → i < length path
     → address ≡ address_of nodes (get_or path i x) → ways ≡ g.ways
     → old ≡ contents g set (map (address_of nodes) (reverse (take i path)))
     → new ≡ after_fetch g set address ways old

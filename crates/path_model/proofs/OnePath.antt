@@ -22,11 +22,15 @@ paths-same nodes (d ∷ c ∷ one) (f ∷ []) a b r s graph long p q has other o
 paths-same nodes (d ∷ c ∷ one) (e ∷ f ∷ two) a b r s graph long p q has other on =
     let step : ℕ → Result (List ℕ) (Unit {0}) = graph_step nodes in
     let onward : has.0 ++ (has.1 ++ r) ≡ other.0 ++ (other.1 ++ s) =
-    sym (append_assoc has.0 has.1 r) ∙ ap (λ xs. xs ++ r) (sym has.4) ∙ on ∙ ap (λ xs. xs ++ s) other.4 ∙ append_assoc other.0 other.1 s in
-    let rest = paths-same nodes (c ∷ one) (f ∷ two) has.0 other.0 (has.1 ++ r) (other.1 ++ s) graph (omega (arith, long)) p.1 q.1 has.2 other.2 onward in
+    sym (append_assoc has.0 has.1 r) ∙ ap (λ xs. xs ++ r) (sym has.4) ∙ on ∙ ap (λ xs. xs ++ s) other.4
+    ∙ append_assoc other.0 other.1 s in
+    let rest = paths-same nodes (c ∷ one) (f ∷ two) has.0 other.0 (has.1 ++ r) (other.1 ++ s) graph
+    (omega (arith, long)) p.1 q.1 has.2 other.2 onward in
     let here : c ≡ f = cc (rest) in
-    let before = choices-unique nodes (c ∷ one) has.0 other.0 graph has.2 (subst (λ (xs : List ℕ). HasChoices step xs other.0) (sym rest) other.2) in
-    let left = append_cancel_left has.0 (has.1 ++ r) (other.1 ++ s) (onward ∙ ap (λ xs. xs ++ (other.1 ++ s)) (sym before)) in
+    let before = choices-unique nodes (c ∷ one) has.0 other.0 graph has.2
+    (subst (λ (xs : List ℕ). HasChoices step xs other.0) (sym rest) other.2) in
+    let left = append_cancel_left has.0 (has.1 ++ r) (other.1 ++ s)
+    (onward ∙ ap (λ xs. xs ++ (other.1 ++ s)) (sym before)) in
     let same : Some (d, length has.1) ≡ Some (e, length other.1) =
     sym (move-only nodes c d has.1 r graph p.0 has.3)
     ∙ ap (λ n. next_to (slice_get nodes n) (slice_get (has.1 ++ r) 0)) here

@@ -4,7 +4,8 @@ use Rattle.std.proofs.Math.ListN.{get_or}
 use Rattle.std.proofs.lemmas.List.{take_more, reverse-append}
 
 -- one member more stands first
-pub reverse-more : {X : Type 0} (xs : List X) (i : ℕ) (d : X) → i < length xs → reverse (take (i + 1) xs) ≡ get_or xs i d ∷ reverse (take i xs)
+pub reverse-more : {X : Type 0} (xs : List X) (i : ℕ) (d : X) → i < length xs
+    → reverse (take (i + 1) xs) ≡ get_or xs i d ∷ reverse (take i xs)
 reverse-more xs i d below =
     ap reverse (take_more xs i d below) ∙ reverse-append (take i xs) (get_or xs i d ∷ [])
 

@@ -20,10 +20,12 @@ pub record IsWalked (nodes : List Node) (steps : ℕ) (choices members : List �
   pub takes : HasChoices (graph_step nodes) (last ∷ earlier) (take used choices)
   pub within : used ≤ length choices
   pub short : length members ≤ steps
-  pub only : (other : List ℕ) → IsFollowed nodes steps choices other → (later : List ℕ) × (other ≡ later ++ last ∷ earlier)
+  pub only : (other : List ℕ) → IsFollowed nodes steps choices other
+      → (later : List ℕ) × (other ≡ later ++ last ∷ earlier)
 
 -- a path begins at its start
-path_begins : (nodes : List Node) (path : List ℕ) → IsPath (graph_step nodes) 0 path → (later : List ℕ) × (path ≡ later ++ 0 ∷ [])
+path_begins : (nodes : List Node) (path : List ℕ) → IsPath (graph_step nodes) 0 path
+    → (later : List ℕ) × (path ≡ later ++ 0 ∷ [])
 path_begins nodes [] path = absurd path
 path_begins nodes (c ∷ []) path = ([], ap (λ x. x ∷ []) path)
 path_begins nodes (d ∷ c ∷ earlier) path =
@@ -31,7 +33,8 @@ path_begins nodes (d ∷ c ∷ earlier) path =
     (d ∷ rest.0, ap (λ xs. d ∷ xs) rest.1)
 
 -- the walk begins at node 0
-pub walked_none : (nodes : List Node) (steps : ℕ) (choices members : List ℕ) → 1 ≤ steps → members ≡ 0 ∷ [] → IsWalked nodes steps choices members 0 0
+pub walked_none : (nodes : List Node) (steps : ℕ) (choices members : List ℕ) → 1 ≤ steps → members ≡ 0 ∷ []
+    → IsWalked nodes steps choices members 0 0
 walked_none nodes steps choices members some begun = record {
   earlier = [];
   ends = begun;
@@ -57,8 +60,10 @@ last_of (e ∷ d ∷ later) some =
     (e ∷ rest.0, rest.1, ap (λ xs. e ∷ xs) rest.2)
 
 -- a move with this letter is the one of the code
-pub move-only : (nodes : List Node) (last d : ℕ) (letter rest : List ℕ) → IsGraph nodes → IsSuccessor (graph_step nodes) last d
-    → IsLetter (graph_step nodes last) d letter → next_to (slice_get nodes last) (slice_get (letter ++ rest) 0) ≡ Some (d, length letter)
+pub move-only : (nodes : List Node) (last d : ℕ) (letter rest : List ℕ) → IsGraph nodes
+    → IsSuccessor (graph_step nodes) last d
+    → IsLetter (graph_step nodes last) d letter
+    → next_to (slice_get nodes last) (slice_get (letter ++ rest) 0) ≡ Some (d, length letter)
 move-only nodes last d letter rest graph leads is =
     let named = node-from_successor nodes last d leads in
     let fit = fit_at nodes (length nodes) last named.0 graph.fit named.1 in
@@ -67,7 +72,8 @@ move-only nodes last d letter rest graph leads is =
     ∙ next_by-only (length nodes) named.0.first named.0.second d letter rest fit named.2 is_by
 
 -- the choice at the place up to which choices are taken
-choice_at : (choices before letter rest : List ℕ) (used : ℕ) → used ≤ length choices → before ≡ take used choices → choices ≡ before ++ letter ++ rest
+choice_at : (choices before letter rest : List ℕ) (used : ℕ) → used ≤ length choices → before ≡ take used choices
+    → choices ≡ before ++ letter ++ rest
     → slice_get choices used ≡ slice_get (letter ++ rest) 0
 choice_at choices before letter rest used within same all =
     let long : length before ≡ used = ap length same ∙ length-take-le used choices within in
@@ -77,26 +83,33 @@ choice_at choices before letter rest used within same all =
 
 -- the move from a member of a path leads to the next one
 move_on : (nodes : List Node) (choices front earlier : List ℕ) (last used d : ℕ) → IsGraph nodes
-    → IsPath (graph_step nodes) 0 (front ++ d ∷ last ∷ earlier) → HasChoices (graph_step nodes) (front ++ d ∷ last ∷ earlier) choices
+    → IsPath (graph_step nodes) 0 (front ++ d ∷ last ∷ earlier)
+    → HasChoices (graph_step nodes) (front ++ d ∷ last ∷ earlier) choices
     → HasChoices (graph_step nodes) (last ∷ earlier) (take used choices) → used ≤ length choices
     → (letter : List ℕ) × (next_to (slice_get nodes last) (slice_get choices used) ≡ Some (d, length letter))
 move_on nodes choices front earlier last used d graph path takes so_far within =
     let leads = (IsPath-suffix (graph_step nodes) 0 d front (last ∷ earlier) path).0 in
     let has = choices-prefix nodes d front (last ∷ earlier) choices takes in
     let same = choices-unique nodes (last ∷ earlier) has.2.0 (take used choices) graph has.2.2 so_far in
-    let choice = choice_at choices has.2.0 has.2.1 has.1 used within same (has.3 ∙ ap (λ xs. xs ++ has.1) has.2.4) in
-    (has.2.1, ap (λ o. next_to (slice_get nodes last) o) choice ∙ move-only nodes last d has.2.1 has.1 graph leads has.2.3)
+    let choice = choice_at choices has.2.0 has.2.1 has.1 used within same (has.3 ∙ ap (λ xs. xs ++ has.1) has.2.4) in (
+      has.2.1,
+      ap (λ o. next_to (slice_get nodes last) o) choice ∙ move-only nodes last d has.2.1 has.1 graph leads
+          has.2.3,
+    )
 
 -- a path that goes on from the members has one more of them
-one_more : (other later tail : List ℕ) → other ≡ later ++ tail → length tail < length other → (front : List ℕ) × (d : ℕ) × (other ≡ front ++ d ∷ tail)
+one_more : (other later tail : List ℕ) → other ≡ later ++ tail → length tail < length other
+    → (front : List ℕ) × (d : ℕ) × (other ≡ front ++ d ∷ tail)
 one_more other later tail on more =
     let first = last_of later (omega (arith, ap length on, length-append later tail)) in
     (first.0, first.1, on ∙ ap (λ xs. xs ++ tail) first.2 ∙ append_assoc first.0 (first.1 ∷ []) tail)
 
 -- the next member of a path of these steps and choices is the one of the move
-pub next-only : (nodes : List Node) (steps : ℕ) (choices members : List ℕ) (last used : ℕ) (other : List ℕ) → IsGraph nodes
+pub next-only : (nodes : List Node) (steps : ℕ) (choices members : List ℕ) (last used : ℕ) (other : List ℕ)
+    → IsGraph nodes
     → IsWalked nodes steps choices members last used → length members < steps → IsFollowed nodes steps choices other
-    → (front : List ℕ) × (d : ℕ) × (letter : List ℕ) × (other ≡ front ++ d ∷ members) × (next_to (slice_get nodes last) (slice_get choices used) ≡ Some (d, length letter))
+    → (front : List ℕ) × (d : ℕ) × (letter : List ℕ) × (other ≡ front ++ d ∷ members)
+    × (next_to (slice_get nodes last) (slice_get choices used) ≡ Some (d, length letter))
 next-only nodes steps choices members last used other graph walked more followed =
     let tail : List ℕ = last ∷ walked.earlier in
     let on = walked.only other followed in
@@ -122,7 +135,8 @@ pub walked_more : (nodes : List Node) (steps : ℕ) (choices members : List ℕ)
     → IsWalked nodes steps choices (to ∷ members) to (used + k)
 walked_more nodes steps choices members last used to k graph walked more next =
     let rest : List ℕ = drop used choices in
-    let move = move-right (slice_get nodes last) rest to k (ap (λ o. next_to (slice_get nodes last) o) (sym (slice_get-drop used choices)) ∙ next) in
+    let move = move-right (slice_get nodes last) rest to k
+    (ap (λ o. next_to (slice_get nodes last) o) (sym (slice_get-drop used choices)) ∙ next) in
     record {
       earlier = last ∷ walked.earlier;
       ends = ap (λ xs. to ∷ xs) walked.ends;
@@ -147,14 +161,16 @@ stuck nodes steps choices members last used graph walked more next other followe
 
 -- with all steps done and all choices taken, the members are the path
 pub walked_all : (nodes : List Node) (steps : ℕ) (choices members : List ℕ) (last used : ℕ)
-    → IsWalked nodes steps choices members last used → steps ≤ length members → length choices ≤ used → IsFollowed nodes steps choices members
+    → IsWalked nodes steps choices members last used → steps ≤ length members → length choices ≤ used
+    → IsFollowed nodes steps choices members
 walked_all nodes steps choices members last used walked done taken =
     let step : ℕ → Result (List ℕ) (Unit {0}) = graph_step nodes in
     record {
       path = subst (λ (xs : List ℕ). IsPath step 0 xs) (sym walked.ends) walked.path;
       as_long = omega (arith, walked.short, done);
       takes = subst (λ (xs : List ℕ). HasChoices step xs choices) (sym walked.ends)
-          (subst (λ (cs : List ℕ). HasChoices step (last ∷ walked.earlier) cs) (take_all used choices taken) walked.takes);
+          (subst (λ (cs : List ℕ). HasChoices step (last ∷ walked.earlier) cs) (take_all used choices taken)
+          walked.takes);
     }
 
 -- with all steps done and choices left over, there is no path of these steps and choices
@@ -165,8 +181,15 @@ left_over nodes steps choices members last used graph walked done left other fol
     let step : ℕ → Result (List ℕ) (Unit {0}) = graph_step nodes in
     let tail : List ℕ = last ∷ walked.earlier in
     let on = walked.only other followed in
-    let none : on.0 ≡ [] = nil_from_length on.0 (omega (arith, followed.as_long, ap length on.1, length-append on.0 tail, ap length walked.ends)) in
+    let none : on.0 ≡ [] = nil_from_length on.0 (omega (
+      arith,
+      followed.as_long,
+      ap length on.1,
+      length-append on.0 tail,
+      ap length walked.ends,
+    )) in
     let same : other ≡ tail = on.1 ∙ ap (λ xs. xs ++ tail) none in
     let takes = subst (λ (xs : List ℕ). HasChoices step xs choices) same followed.takes in
-    let cut : choices ≡ take used choices = choices-unique nodes tail choices (take used choices) graph takes walked.takes in
+    let cut : choices ≡ take used choices =
+    choices-unique nodes tail choices (take used choices) graph takes walked.takes in
     absurd (omega (arith, ap length cut, length-take-le used choices walked.within))

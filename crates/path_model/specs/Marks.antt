@@ -11,7 +11,8 @@ IsMarked marks m = slice_index_or marks m false ≡ true
 -- a marked number is a greater successor of some node, and each greater successor of the first count nodes is marked
 pub record AreMarked (nodes : List Node) (count : ℕ) (marks : List Bool) : Type 0 where
   pub sound : (m : ℕ) → IsMarked marks m → (n : ℕ) × (n < m) × IsSuccessor (graph_step nodes) n m
-  pub complete : (n m : ℕ) → n < count → n < m → m < length marks → IsSuccessor (graph_step nodes) n m → IsMarked marks m
+  pub complete : (n m : ℕ) → n < count → n < m → m < length marks → IsSuccessor (graph_step nodes) n m
+      → IsMarked marks m
 
 -- the marks that were set stay so, and the greater successor gets its own; no other is set
 pub record MarksOne (before after : List Bool) (from : ℕ) (to : Option ℕ) : Type 0 where

@@ -6,8 +6,10 @@ use Rattle.path_model.specs.Graph.{graph_step}
 use Rattle.path_trail.specs.Trail.{TrailEntry, node_at, earlier_at, IsChain, LeadsOn, IsTrail}
 
 -- with a chain of what stands before it, a node that is led to ends a path
-path-behind : (nodes : List Node) (entries : List TrailEntry) → IsTrail nodes entries → (members : List ℕ) (number : ℕ) (before : Option ℕ) (node : ℕ)
-    → number < length entries → LeadsOn nodes entries number before node → IsChain entries before members → IsPath (graph_step nodes) 0 (node ∷ members)
+path-behind : (nodes : List Node) (entries : List TrailEntry) → IsTrail nodes entries
+    → (members : List ℕ) (number : ℕ) (before : Option ℕ) (node : ℕ)
+    → number < length entries → LeadsOn nodes entries number before node → IsChain entries before members
+    → IsPath (graph_step nodes) 0 (node ∷ members)
 path-behind nodes entries trail [] number None node inside leads chain = leads
 path-behind nodes entries trail (x ∷ members) number None node inside leads chain = absurd chain
 path-behind nodes entries trail [] number (Some earlier) node inside leads chain = absurd chain
@@ -16,16 +18,19 @@ path-behind nodes entries trail (x ∷ members) number (Some earlier) node insid
     let there : earlier < length entries = omega arith in (
       subst (λ (n : ℕ). IsSuccessor (graph_step nodes) n node) (sym chain.0) leads.1,
       path-behind nodes entries trail members earlier (earlier_at entries earlier) x there
-          (subst (λ (n : ℕ). LeadsOn nodes entries earlier (earlier_at entries earlier) n) (sym chain.0) (trail earlier there)) chain.1,
+          (subst (λ (n : ℕ). LeadsOn nodes entries earlier (earlier_at entries earlier) n) (sym chain.0)
+          (trail earlier there)) chain.1,
     )
 
 -- the chain of an entry is a path
-pub IsPath-chain : (nodes : List Node) (entries : List TrailEntry) (number : ℕ) (members : List ℕ) → IsTrail nodes entries → number < length entries
+pub IsPath-chain : (nodes : List Node) (entries : List TrailEntry) (number : ℕ) (members : List ℕ)
+    → IsTrail nodes entries → number < length entries
     → IsChain entries (Some number) members → IsPath (graph_step nodes) 0 members
 IsPath-chain nodes entries number [] trail inside chain = absurd chain
 IsPath-chain nodes entries number (node ∷ members) trail inside chain =
     path-behind nodes entries trail members number (earlier_at entries number) node inside
-    (subst (λ (n : ℕ). LeadsOn nodes entries number (earlier_at entries number) n) (sym chain.0) (trail number inside)) chain.1
+    (subst (λ (n : ℕ). LeadsOn nodes entries number (earlier_at entries number) n) (sym chain.0) (trail number inside))
+    chain.1
 
 -- these members and any chain of the entry to go on with are a chain of the first entry
 pub record IsFront (entries : List TrailEntry) (first : ℕ) (members : List ℕ) (next : Option ℕ) : Type 0 where
@@ -33,14 +38,16 @@ pub record IsFront (entries : List TrailEntry) (first : ℕ) (members : List ℕ
   pub goes_on : (rest : List ℕ) → IsChain entries next rest → IsChain entries (Some first) (members ++ rest)
 
 -- at first there are no members
-pub front_none : (entries : List TrailEntry) (first : ℕ) (members : List ℕ) → first < length entries → members ≡ [] → IsFront entries first members (Some first)
+pub front_none : (entries : List TrailEntry) (first : ℕ) (members : List ℕ) → first < length entries → members ≡ []
+    → IsFront entries first members (Some first)
 front_none entries first members within none = record {
   inside = λ number same. let equal : first ≡ number = cc in omega arith;
   goes_on = λ rest chain. subst (λ (front : List ℕ). IsChain entries (Some first) (front ++ rest)) (sym none) chain;
 }
 
 -- the entry before one that leads on has a smaller number
-pub before_smaller : (nodes : List Node) (entries : List TrailEntry) (number : ℕ) (before : Option ℕ) (node earlier : ℕ) → LeadsOn nodes entries number before node
+pub before_smaller : (nodes : List Node) (entries : List TrailEntry) (number : ℕ) (before : Option ℕ) (node earlier : ℕ)
+    → LeadsOn nodes entries number before node
     → before ≡ Some earlier → earlier < number
 before_smaller nodes entries number None node earlier leads same = absurd (cc)
 before_smaller nodes entries number (Some other) node earlier leads same =
@@ -49,25 +56,31 @@ before_smaller nodes entries number (Some other) node earlier leads same =
     omega arith
 
 -- one member more
-pub front_more : (nodes : List Node) (entries : List TrailEntry) (first number node : ℕ) (members more : List ℕ) (next before : Option ℕ) → IsTrail nodes entries
-    → IsFront entries first members next → next ≡ Some number → node ≡ node_at entries number → before ≡ earlier_at entries number
+pub front_more : (nodes : List Node) (entries : List TrailEntry) (first number node : ℕ) (members more : List ℕ)
+    (next before : Option ℕ) → IsTrail nodes entries
+    → IsFront entries first members next → next ≡ Some number → node ≡ node_at entries number
+    → before ≡ earlier_at entries number
     → more ≡ members ++ node ∷ [] → IsFront entries first more before
 front_more nodes entries first number node members more next before trail front at node_is before_is more_is =
     let there : number < length entries = front.inside number at in
     record {
       inside = λ earlier same.
           let smaller = before_smaller nodes entries number before _ earlier
-          (subst (λ (o : Option ℕ). LeadsOn nodes entries number o (node_at entries number)) (sym before_is) (trail number there)) same in
+          (subst (λ (o : Option ℕ). LeadsOn nodes entries number o (node_at entries number)) (sym before_is)
+          (trail number there)) same in
           omega arith;
       goes_on = λ rest chain.
-          let whole : IsChain entries (Some number) (node ∷ rest) = (node_is, subst (λ (o : Option ℕ). IsChain entries o rest) before_is chain) in
-          let on = front.goes_on (node ∷ rest) (subst (λ (o : Option ℕ). IsChain entries o (node ∷ rest)) (sym at) whole) in
+          let whole : IsChain entries (Some number) (node ∷ rest) =
+          (node_is, subst (λ (o : Option ℕ). IsChain entries o rest) before_is chain) in
+          let on = front.goes_on (node ∷ rest) (subst (λ (o : Option ℕ). IsChain entries o (node ∷ rest)) (sym at)
+          whole) in
           subst (λ (xs : List ℕ). IsChain entries (Some first) (xs ++ rest)) (sym more_is)
           (subst (λ (xs : List ℕ). IsChain entries (Some first) xs) (sym (append_assoc members (node ∷ []) rest)) on);
     }
 
 -- with no entry to go on with, the members are the chain
-pub front_all : (entries : List TrailEntry) (first : ℕ) (members : List ℕ) (next : Option ℕ) → IsFront entries first members next → next ≡ None
+pub front_all : (entries : List TrailEntry) (first : ℕ) (members : List ℕ) (next : Option ℕ)
+    → IsFront entries first members next → next ≡ None
     → IsChain entries (Some first) members
 front_all entries first members next front done =
     subst (λ (xs : List ℕ). IsChain entries (Some first) xs) (append-nil members)
@@ -79,11 +92,14 @@ left None = 0
 left (Some number) = number + 1
 
 -- the chain goes down
-pub left_smaller : (nodes : List Node) (entries : List TrailEntry) (first number : ℕ) (members : List ℕ) (next before : Option ℕ) → IsTrail nodes entries
-    → IsFront entries first members next → next ≡ Some number → before ≡ earlier_at entries number → left before < left next
+pub left_smaller : (nodes : List Node) (entries : List TrailEntry) (first number : ℕ) (members : List ℕ)
+    (next before : Option ℕ) → IsTrail nodes entries
+    → IsFront entries first members next → next ≡ Some number → before ≡ earlier_at entries number
+    → left before < left next
 left_smaller nodes entries first number members next before trail front at before_is =
     let there : number < length entries = front.inside number at in
-    let leads = subst (λ (o : Option ℕ). LeadsOn nodes entries number o (node_at entries number)) (sym before_is) (trail number there) in
+    let leads = subst (λ (o : Option ℕ). LeadsOn nodes entries number o (node_at entries number)) (sym before_is)
+    (trail number there) in
     subst (λ (o : Option ℕ). left before < left o) (sym at) (below before leads)
   where
     below : (o : Option ℕ) → LeadsOn nodes entries number o (node_at entries number) → left o < number + 1

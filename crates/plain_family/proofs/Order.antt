@@ -17,17 +17,23 @@ before_back : (s t : List ℕ) → slice_cmp nat_cmp s t ≡ Greater → IsBefor
 before_back s t behind = nat_list_cmp_total.antisymm t s ∙ ap ordering_reverse behind
 
 -- the order, as the search asks for it
-sorted_from_ordered : (sets : List (List ℕ)) → AllPairs IsBefore sets → IsSortedBy (λ a b. is_lt (slice_cmp nat_cmp a b)) sets
+sorted_from_ordered : (sets : List (List ℕ)) → AllPairs IsBefore sets
+    → IsSortedBy (λ a b. is_lt (slice_cmp nat_cmp a b)) sets
 sorted_from_ordered sets ordered k d low inside =
-    ap is_lt (nat_list_cmp_total.antisymm (get_or sets (k + 1) d) (get_or sets k d) ∙ ap ordering_reverse (ordered k (k + 1) d (omega arith) inside))
+    ap is_lt (nat_list_cmp_total.antisymm (get_or sets (k + 1) d) (get_or sets k d) ∙ ap ordering_reverse
+    (ordered k (k + 1) d (omega arith) inside))
 
 -- what the search answers
-pub place_from_search : (sets : List (List ℕ)) (s : List ℕ) (r : Result ℕ ℕ) → AllPairs IsBefore sets → IsSearchInRange r (length sets)
+pub place_from_search : (sets : List (List ℕ)) (s : List ℕ) (r : Result ℕ ℕ) → AllPairs IsBefore sets
+    → IsSearchInRange r (length sets)
     → IsBinarySearchResult (λ t. slice_cmp nat_cmp t s) sets r → IsPlaceOf sets s r
 place_from_search sets s (Ok i) ordered within found = (i, within, exact_bytes _ _ (found s))
 place_from_search sets s (Err i) ordered within found =
-    let parted = found (searchable_from_sorted nat_list_cmp_total (λ t. t) sets s (sorted_from_ordered sets ordered)) in
-    (within, λ k d front. parted.0 k d (omega arith) front, λ k d back inside. before_back (get_or sets k d) s (parted.1 k d back inside))
+    let parted = found (searchable_from_sorted nat_list_cmp_total (λ t. t) sets s (sorted_from_ordered sets ordered)) in (
+      within,
+      λ k d front. parted.0 k d (omega arith) front,
+      λ k d back inside. before_back (get_or sets k d) s (parted.1 k d back inside),
+    )
 
 -- no set comes before itself
 never_before_itself : (s : List ℕ) → IsBefore s s → ⊥
@@ -41,12 +47,17 @@ absent sets s i place there = elim (cases_lt there.0 i) [
 ]
 
 -- whether a set is there
-pub is_ok-place : (sets : List (List ℕ)) (s : List ℕ) (r : Result ℕ ℕ) → IsPlaceOf sets s r → (is_ok r ≡ true) ↔ Contains sets s
+pub is_ok-place : (sets : List (List ℕ)) (s : List ℕ) (r : Result ℕ ℕ) → IsPlaceOf sets s r
+    → (is_ok r ≡ true) ↔ Contains sets s
 is_ok-place sets s (Ok i) place = (λ _. place, λ _. refl)
-is_ok-place sets s (Err i) place = (λ same. absurd (true≢false (sym same)), λ there. absurd (absent sets s i place there))
+is_ok-place sets s (Err i) place = (
+  λ same. absurd (true≢false (sym same)),
+  λ there. absurd (absent sets s i place there),
+)
 
 -- a set put where it belongs
-pub IsFamily-insert : (sets : List (List ℕ)) (i : ℕ) (s : List ℕ) → IsFamily sets → IsStrictlyIncreasing s → IsPlaceOf sets s (Err i) → IsFamily (insert sets i s)
+pub IsFamily-insert : (sets : List (List ℕ)) (i : ℕ) (s : List ℕ) → IsFamily sets → IsStrictlyIncreasing s
+    → IsPlaceOf sets s (Err i) → IsFamily (insert sets i s)
 IsFamily-insert sets i s family up place = record {
   ordered = AllPairs-insert IsBefore sets i s place.0 family.ordered place.1 place.2;
   rising = λ t there. elim ((Contains-insert sets i s t).0 there) [

@@ -9,7 +9,8 @@ use Rattle.plain_family.specs.Family.{AreRising, IsWith, IsMinimal, IsMaximal}
 pub IsWith-unique : (x : ℕ) (set s t : List ℕ) → IsWith x set s → IsWith x set t → s ≡ t
 IsWith-unique x set s t first second =
     same_from_subsets s t first.rising second.rising
-    (λ y here. (second.members y).1 ((first.members y).0 here)) (λ y here. (first.members y).1 ((second.members y).0 here))
+    (λ y here. (second.members y).1 ((first.members y).0 here))
+    (λ y here. (first.members y).1 ((second.members y).0 here))
 
 -- the first set is included in the second and has fewer numbers
 abbrev pub IsSmaller : List ℕ → List ℕ → Type 0

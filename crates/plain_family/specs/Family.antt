@@ -36,4 +36,5 @@ IsMaximal sets s = (t : List ℕ) → Contains sets t → IsSubset s t → t ≡
 -- where a set is, or between which sets it belongs
 abbrev pub IsPlaceOf : List (List ℕ) → List ℕ → Result ℕ ℕ → Type 0
 IsPlaceOf sets s (Ok i) = Contains sets s
-IsPlaceOf sets s (Err i) = (i ≤ length sets) × ((k : ℕ) (d : List ℕ) → k < i → IsBefore (slice_index_or sets k d) s) × ((k : ℕ) (d : List ℕ) → i ≤ k → k < length sets → IsBefore s (slice_index_or sets k d))
+IsPlaceOf sets s (Err i) = (i ≤ length sets) × ((k : ℕ) (d : List ℕ) → k < i → IsBefore (slice_index_or sets k d) s)
+    × ((k : ℕ) (d : List ℕ) → i ≤ k → k < length sets → IsBefore s (slice_index_or sets k d))

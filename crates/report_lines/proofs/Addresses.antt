@@ -22,7 +22,8 @@ both : (image : Image) (p : ℕ) → IsTrue (is_text image p) → IsFalse (is_te
 both image p text bare = cc (text, bare)
 
 -- what begins after a word begins at the next word
-listed_from_next : (image : Image) (from p : ℕ) (words : List ℕ) → IsNextText image from (Some p) → IsListed image p words
+listed_from_next : (image : Image) (from p : ℕ) (words : List ℕ) → IsNextText image from (Some p)
+    → IsListed image p words
     → IsListed image from words
 listed_from_next image from p words next listed = record {
   rising = listed.rising;
@@ -46,14 +47,16 @@ BeginsBare image nodes (Context node at depth back verdict ∷ lines) = Unit {0}
 BeginsBare image nodes (Unreachable first last ∷ lines) = IsBare image nodes first
 
 -- what holds of all lines from an address on
-record AreListed (image : Image) (entry : ℕ) (g : Geometry) (nodes : List Node) (from : ℕ) (lines : List Line) : Type 0 where
-  words : IsListed image from (flat_map addresses_of lines)
-  right : AllByRecursion (IsRightLine image entry g) lines
-  greatest : AreGreatest lines
-  begins : BeginsBare image nodes lines
+record AreListed (image : Image) (entry : ℕ) (g : Geometry) (nodes : List Node) (from : ℕ) (lines : List Line) : Type 0
+  where
+    words : IsListed image from (flat_map addresses_of lines)
+    right : AllByRecursion (IsRightLine image entry g) lines
+    greatest : AreGreatest lines
+    begins : BeginsBare image nodes lines
 
 -- no range could be joined with the next, where that begins at a bare word and the first doesn't go on
-still_greatest : (image : Image) (nodes : List Node) (first last : ℕ) (lines : List Line) → (IsBare image nodes (last + 4) → ⊥)
+still_greatest : (image : Image) (nodes : List Node) (first last : ℕ) (lines : List Line)
+    → (IsBare image nodes (last + 4) → ⊥)
     → BeginsBare image nodes lines → AreGreatest lines → AreGreatest (Unreachable first last ∷ lines)
 still_greatest image nodes first last [] ends bare greatest = tt
 still_greatest image nodes first last (At at verdict ∷ lines) ends bare greatest = greatest
@@ -61,7 +64,8 @@ still_greatest image nodes first last (Context node at depth back verdict ∷ li
 still_greatest image nodes first last (Unreachable next end ∷ lines) ends bare greatest =
     (λ same. ends (subst (IsBare image nodes) same bare), greatest)
 
-module _ (image : Image) (entry : ℕ) (g : Geometry) (configurations : List Configuration) (nodes : List Node) (verdicts : List Verdict)
+module _ (image : Image) (entry : ℕ) (g : Geometry) (configurations : List Configuration) (nodes : List Node)
+    (verdicts : List Verdict)
     (found : AreFindings image entry g configurations nodes verdicts) where
   -- the same of this program
   abbrev Listed : ℕ → List Line → Type 0
@@ -112,8 +116,10 @@ module _ (image : Image) (entry : ℕ) (g : Geometry) (configurations : List Con
       })
 
   -- what begins after a line, where those from the next word on are listed
-  behind_line : (from : ℕ) (lines : List Line) → ((q : ℕ) → AreAllFrom (IsByAddress image nodes verdicts) (Some q) lines → Listed q lines)
-      → (next : Option ℕ) → IsNextText image from next → AreAllFrom (IsByAddress image nodes verdicts) next lines → Listed from lines
+  behind_line : (from : ℕ) (lines : List Line)
+      → ((q : ℕ) → AreAllFrom (IsByAddress image nodes verdicts) (Some q) lines → Listed q lines)
+      → (next : Option ℕ) → IsNextText image from next → AreAllFrom (IsByAddress image nodes verdicts) next lines
+      → Listed from lines
   behind_line from lines later None none empty = subst (λ (ls : List Line). Listed from ls) (sym empty)
       (record { words = listed_none image from none; right = tt; greatest = tt; begins = tt })
   behind_line from lines later (Some q) to all =
@@ -126,10 +132,12 @@ module _ (image : Image) (entry : ℕ) (g : Geometry) (configurations : List Con
       }
 
   -- all lines from a place on
-  listed : (lines : List Line) (from : ℕ) → AreAllFrom (IsByAddress image nodes verdicts) (Some from) lines → Listed from lines
+  listed : (lines : List Line) (from : ℕ) → AreAllFrom (IsByAddress image nodes verdicts) (Some from) lines
+      → Listed from lines
   listed [] from none = record { words = listed_none image from none; right = tt; greatest = tt; begins = tt }
   listed (line ∷ lines) from (next, (p, first, line_is, behind), later) =
-      let at_p = with_line p line lines first.0 line_is (behind_line (last_of line + 4) lines (listed lines) next behind later) in
+      let at_p = with_line p line lines first.0 line_is (behind_line (last_of line + 4) lines (listed lines) next behind
+      later) in
       record {
         words = listed_from_next image from p (flat_map addresses_of (line ∷ lines)) first at_p.words;
         right = at_p.right;
@@ -138,7 +146,8 @@ module _ (image : Image) (entry : ℕ) (g : Geometry) (configurations : List Con
       }
 
   -- all lines are those of the report by address
-  pub by_address : (lines : List Line) → AreAllFrom (IsByAddress image nodes verdicts) (Some 0) lines → AreByAddress image entry g lines
+  pub by_address : (lines : List Line) → AreAllFrom (IsByAddress image nodes verdicts) (Some 0) lines
+      → AreByAddress image entry g lines
   by_address lines all =
       let it = listed lines 0 all in
       record {

@@ -15,10 +15,12 @@ use Rattle.report_lines.proofs.Numbers.{context_lines, numbers_left}
 use Rattle.report_lines.proofs.Addresses.{by_address}
 use Rattle.report_lines.proofs.Rest.{addresses_left}
 
-module _ (image : Image) (entry : ℕ) (g : Geometry) (configurations : List Configuration) (nodes : List Node) (verdicts : List Verdict)
+module _ (image : Image) (entry : ℕ) (g : Geometry) (configurations : List Configuration) (nodes : List Node)
+    (verdicts : List Verdict)
     (found : AreFindings image entry g configurations nodes verdicts) where
   -- all lines make a report
-  pub report : (contexts : Bool) (lines : List Line) → AreAllFrom (Stands contexts image configurations nodes verdicts) (Some 0) lines
+  pub report : (contexts : Bool) (lines : List Line)
+      → AreAllFrom (Stands contexts image configurations nodes verdicts) (Some 0) lines
       → IsReport image entry g contexts (text_of lines)
   report true lines all =
       let (layers, accepted, same) = found.accepted in (
@@ -41,5 +43,7 @@ module _ (image : Image) (entry : ℕ) (g : Geometry) (configurations : List Con
   pub rest : (contexts : Bool) (place : Option ℕ)
       → (lines : List Line) × AreAllFrom (Stands contexts image configurations nodes verdicts) place lines
   rest contexts None = ([], refl)
-  rest true (Some k) = numbers_left image entry g configurations nodes verdicts found (length configurations) k (omega arith)
-  rest false (Some from) = addresses_left image found.within nodes verdicts found.graph.graph has (2 ^ 32) from (omega arith)
+  rest true (Some k) = numbers_left image entry g configurations nodes verdicts found (length configurations) k
+      (omega arith)
+  rest false (Some from) = addresses_left image found.within nodes verdicts found.graph.graph has (2 ^ 32) from
+      (omega arith)

@@ -36,14 +36,16 @@ drop_past [] (suc k) past = refl
 drop_past (x ∷ xs) zero past = absurd (omega (arith, past))
 drop_past (x ∷ xs) (suc k) past = drop_past xs k (omega (arith, past))
 
-module _ (image : Image) (entry : ℕ) (g : Geometry) (configurations : List Configuration) (nodes : List Node) (verdicts : List Verdict)
+module _ (image : Image) (entry : ℕ) (g : Geometry) (configurations : List Configuration) (nodes : List Node)
+    (verdicts : List Verdict)
     (found : AreFindings image entry g configurations nodes verdicts) where
   -- there is a node for each configuration
   long : length configurations ≡ length nodes
   long = sym (AllZip-long _ _ _ found.graph.each)
 
   -- the line of a configuration is right
-  context_line : (k : ℕ) (c : Configuration) (line : Line) → slice_get configurations k ≡ Some c → IsLineOf configurations verdicts k line
+  context_line : (k : ℕ) (c : Configuration) (line : Line) → slice_get configurations k ≡ Some c
+      → IsLineOf configurations verdicts k line
       → IsContextLine image entry g k c line
   context_line k c (At at verdict) is line = absurd line
   context_line k c (Unreachable first last) is line = absurd line
@@ -52,25 +54,34 @@ module _ (image : Image) (entry : ℕ) (g : Geometry) (configurations : List Con
       let below : k < length configurations = slice_get_within configurations k c is in
       let here : numbered configurations k ≡ d = get_or_from_slice_get configurations k d (start_of 0) is_d in
       let right : IsRight image entry g (λ e. e ≡ numbered configurations k) verdict =
-      context_right image entry g configurations nodes verdicts found.graph found.right k verdict (omega (arith, below, long)) long has in
-      subst (λ (c : Configuration). IsContextLine image entry g k c (Context node at depth back verdict)) same
-      (number, at_is, depth_is, back_is, subst (λ (c : Configuration). IsRight image entry g (λ e. e ≡ c) verdict) here right)
+      context_right image entry g configurations nodes verdicts found.graph found.right k verdict
+      (omega (arith, below, long)) long has in
+      subst (λ (c : Configuration). IsContextLine image entry g k c (Context node at depth back verdict)) same (
+        number,
+        at_is,
+        depth_is,
+        back_is,
+        subst (λ (c : Configuration). IsRight image entry g (λ e. e ≡ c) verdict) here right,
+      )
 
   -- what stands after a number, where the lines from the next on are those of the configurations left
   behind_number : (k : ℕ) (lines : List Line) → (AreAllFrom (IsByNumber configurations verdicts) (Some (k + 1)) lines
       → AreContextLines image entry g (k + 1) (drop (k + 1) configurations) lines)
       → (next : Option ℕ) → next ≡ (if nat_lt (k + 1) (length configurations) then Some (k + 1) else None)
-      → AreAllFrom (IsByNumber configurations verdicts) next lines → (more : Bool) → nat_lt (k + 1) (length configurations) ≡ more
+      → AreAllFrom (IsByNumber configurations verdicts) next lines → (more : Bool)
+      → nat_lt (k + 1) (length configurations) ≡ more
       → AreContextLines image entry g (k + 1) (drop (k + 1) configurations) lines
   behind_number k lines later next next_is all true is =
       let to : next ≡ Some (k + 1) = next_is ∙ rw is refl in
       later (subst (λ (p : Option ℕ). AreAllFrom (IsByNumber configurations verdicts) p lines) to all)
   behind_number k lines later next next_is all false is =
       let to : next ≡ None = next_is ∙ rw is refl in
-      let none : lines ≡ [] = subst (λ (p : Option ℕ). AreAllFrom (IsByNumber configurations verdicts) p lines) to all in
+      let none : lines ≡ [] = subst (λ (p : Option ℕ). AreAllFrom (IsByNumber configurations verdicts) p lines) to
+      all in
       let past : length configurations ≤ k + 1 = grind (arith, nat_tests, is) in
       subst (λ (ls : List Line). AreContextLines image entry g (k + 1) (drop (k + 1) configurations) ls) (sym none)
-      (subst (λ (cs : List Configuration). AreContextLines image entry g (k + 1) cs []) (sym (drop_past configurations (k + 1) past)) tt)
+      (subst (λ (cs : List Configuration). AreContextLines image entry g (k + 1) cs [])
+      (sym (drop_past configurations (k + 1) past)) tt)
 
   -- a line of a configuration, and those after it
   with_context : (k : ℕ) (line : Line) (lines : List Line) → IsLineOf configurations verdicts k line
@@ -80,7 +91,8 @@ module _ (image : Image) (entry : ℕ) (g : Geometry) (configurations : List Con
   with_context k (Unreachable first last) lines is later = absurd is
   with_context k (Context node at depth back verdict) lines is later =
       let (number, has, (c, is_c, at_is, depth_is, back_is)) = is in
-      subst (λ (cs : List Configuration). AreContextLines image entry g k cs (Context node at depth back verdict ∷ lines))
+      subst (λ (cs : List Configuration). AreContextLines image entry g k cs
+      (Context node at depth back verdict ∷ lines))
       (sym (drop_at configurations k c is_c))
       (context_line k c (Context node at depth back verdict) is_c is, later)
 
@@ -88,10 +100,12 @@ module _ (image : Image) (entry : ℕ) (g : Geometry) (configurations : List Con
   pub context_lines : (lines : List Line) (k : ℕ) → AreAllFrom (IsByNumber configurations verdicts) (Some k) lines
       → AreContextLines image entry g k (drop k configurations) lines
   context_lines [] k past =
-      subst (λ (cs : List Configuration). AreContextLines image entry g k cs []) (sym (drop_past configurations k past)) tt
+      subst (λ (cs : List Configuration). AreContextLines image entry g k cs []) (sym (drop_past configurations k past))
+      tt
   context_lines (line ∷ lines) k (next, (line_is, next_is), later) =
       with_context k line lines line_is
-      (behind_number k lines (context_lines lines (k + 1)) next next_is later (nat_lt (k + 1) (length configurations)) refl)
+      (behind_number k lines (context_lines lines (k + 1)) next next_is later (nat_lt (k + 1) (length configurations))
+      refl)
 
   -- each number of a configuration has its line
   line_there : (k : ℕ) → k < length configurations → (line : Line) × IsLineOf configurations verdicts k line
@@ -107,14 +121,18 @@ module _ (image : Image) (entry : ℕ) (g : Geometry) (configurations : List Con
   behind_of k = if nat_lt (k + 1) (length configurations) then Some (k + 1) else None
 
   -- there are lines from the number after one on, where there are such from it on
-  rest_there : (k : ℕ) → ((lines : List Line) × AreAllFrom (IsByNumber configurations verdicts) (Some (k + 1)) lines) → (more : Bool)
-      → (lines : List Line) × AreAllFrom (IsByNumber configurations verdicts) (if more then Some (k + 1) else None) lines
+  rest_there : (k : ℕ) → ((lines : List Line) × AreAllFrom (IsByNumber configurations verdicts) (Some (k + 1)) lines)
+      → (more : Bool)
+      → (lines : List Line) × AreAllFrom (IsByNumber configurations verdicts) (if more then Some (k + 1) else None)
+      lines
   rest_there k later true = later
   rest_there k later false = ([], refl)
 
   -- one line more, where the number is that of a configuration
-  number_left : (k : ℕ) → ((lines : List Line) × AreAllFrom (IsByNumber configurations verdicts) (Some (k + 1)) lines) → (inside : Bool)
-      → nat_lt k (length configurations) ≡ inside → (lines : List Line) × AreAllFrom (IsByNumber configurations verdicts) (Some k) lines
+  number_left : (k : ℕ) → ((lines : List Line) × AreAllFrom (IsByNumber configurations verdicts) (Some (k + 1)) lines)
+      → (inside : Bool)
+      → nat_lt k (length configurations) ≡ inside
+      → (lines : List Line) × AreAllFrom (IsByNumber configurations verdicts) (Some k) lines
   number_left k later false is = ([], grind (arith, nat_tests, is))
   number_left k later true is =
       let (line, line_is) = line_there k (grind (arith, nat_tests, is)) in

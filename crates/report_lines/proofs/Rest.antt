@@ -38,8 +38,10 @@ choices_there nodes (m ∷ n ∷ earlier) (follows, is) =
 way_there : (nodes : List Node) (n : ℕ) → IsGraph nodes → n < length nodes → (way : Way) × NamesPathTo nodes n way
 way_there nodes n graph inside =
     let (earlier, path) = node_reached nodes n graph inside in
-    let (letters, has) = choices_there nodes (n ∷ earlier) path in
-    (record { steps = length (n ∷ earlier); choices = letters }, (earlier, path, record { steps = refl; choices = has }))
+    let (letters, has) = choices_there nodes (n ∷ earlier) path in (
+      record { steps = length (n ∷ earlier); choices = letters },
+      (earlier, path, record { steps = refl; choices = has }),
+    )
 
 -- by each verdict there is a way to a hit, or no path hits; likewise for misses
 way_or_never : (nodes : List Node) (n : ℕ) (verdict : Verdict) (hits : Bool) → (way : Way) × NamesPathTo nodes n way
@@ -59,7 +61,8 @@ module _ (nodes : List Node) (address : ℕ) where
     | inl found ↦ inl found
     | inr none ↦ by_test none (address_of nodes count == address) refl
   ] where
-    by_test : ((n : ℕ) → n < count → address_of nodes n ≡ address → ⊥) → (here : Bool) → (address_of nodes count == address) ≡ here
+    by_test : ((n : ℕ) → n < count → address_of nodes n ≡ address → ⊥) → (here : Bool)
+        → (address_of nodes count == address) ≡ here
         → ((n : ℕ) × IsNodeAt nodes address n) ⊎ ((n : ℕ) → n < suc count → address_of nodes n ≡ address → ⊥)
     by_test none true is = inl (count, record { inside = omega (arith, few); at = grind (arith, nat_tests, is) })
     by_test none false is = inr (λ n below at. last n below at (n == count) refl) where
@@ -91,11 +94,13 @@ module _ (nodes : List Node) (verdicts : List Verdict) (address : ℕ) (graph : 
     by_test : (same : Bool) → (n == count) ≡ same → slice_get verdicts n ≡ Some verdict
     by_test true same =
         let one : n ≡ count = grind (arith, nat_tests, same) in
-        subst (λ (k : ℕ). slice_get verdicts k ≡ Some verdict) (sym one) (last (subst (λ (k : ℕ). IsNodeAt nodes address k) one at))
+        subst (λ (k : ℕ). slice_get verdicts k ≡ Some verdict) (sym one)
+        (last (subst (λ (k : ℕ). IsNodeAt nodes address k) one at))
     by_test false same = let other : n < count = grind (arith, nat_tests, same, below) in each n other at
 
   -- a node that isn't at the address has any verdict where it is there
-  not_there : (count : ℕ) (verdict : Verdict) → (address_of nodes count == address) ≡ false → IsNodeAt nodes address count
+  not_there : (count : ℕ) (verdict : Verdict) → (address_of nodes count == address) ≡ false
+      → IsNodeAt nodes address count
       → slice_get verdicts count ≡ Some verdict
   not_there count verdict is at = let here = at.at in absurd (grind (arith, nat_tests, is, here))
 
@@ -141,7 +146,8 @@ none_of false never = refl
 
 module _ (image : Image) (within : IsWithin image) where
   -- what is next from the address after one that isn't in the text is next from there
-  skip : (from : ℕ) (next : Option ℕ) → is_text image from ≡ false → IsNextText image (from + 1) next → IsNextText image from next
+  skip : (from : ℕ) (next : Option ℕ) → is_text image from ≡ false → IsNextText image (from + 1) next
+      → IsNextText image from next
   skip from None bare later = λ n at. none_of (is_text image n) (λ text. at_or_behind n at text (n == from) refl) where
     at_or_behind : (n : ℕ) → from ≤ n → IsTrue (is_text image n) → (same : Bool) → (n == from) ≡ same → ⊥
     at_or_behind n at text true is =
@@ -149,16 +155,22 @@ module _ (image : Image) (within : IsWithin image) where
         let here : is_text image from ≡ true = subst (λ (k : ℕ). is_text image k ≡ true) one text in cc (here, bare)
     at_or_behind n at text false is =
         let behind : from + 1 ≤ n = grind (arith, nat_tests, is, at) in let none = later n behind in cc (text, none)
-  skip from (Some found) bare later = (later.0, omega (arith, later.1), λ n at text. at_or_behind n at text (n == from) refl) where
+  skip from (Some found) bare later = (
+    later.0,
+    omega (arith, later.1),
+    λ n at text. at_or_behind n at text (n == from) refl,
+  ) where
     at_or_behind : (n : ℕ) → from ≤ n → IsTrue (is_text image n) → (same : Bool) → (n == from) ≡ same → found ≤ n
     at_or_behind n at text true is =
         let one : n ≡ from = grind (arith, nat_tests, is) in
-        let here : is_text image from ≡ true = subst (λ (k : ℕ). is_text image k ≡ true) one text in absurd (cc (here, bare))
+        let here : is_text image from ≡ true =
+        subst (λ (k : ℕ). is_text image k ≡ true) one text in absurd (cc (here, bare))
     at_or_behind n at text false is =
         let behind : from + 1 ≤ n = grind (arith, nat_tests, is, at) in later.2 n behind text
 
   -- the next word is here, or after
-  here_or_behind : (from : ℕ) → ((next : Option ℕ) × IsNextText image (from + 1) next) → (text : Bool) → is_text image from ≡ text
+  here_or_behind : (from : ℕ) → ((next : Option ℕ) × IsNextText image (from + 1) next) → (text : Bool)
+      → is_text image from ≡ text
       → (next : Option ℕ) × IsNextText image from next
   here_or_behind from later true is = (Some from, (is, omega arith, λ n at text. at))
   here_or_behind from later false is = (later.0, skip from later.0 is later.1)
@@ -167,7 +179,8 @@ module _ (image : Image) (within : IsWithin image) where
   pub next_there : (left from : ℕ) → 2 ^ 32 ≤ from + left → (next : Option ℕ) × IsNextText image from next
   next_there zero from room =
       (None, λ n at. none_of (is_text image n) (λ text. let below = within n text in omega (arith, room, at, below)))
-  next_there (suc left) from room = here_or_behind from (next_there left (from + 1) (omega (arith, room))) (is_text image from) refl
+  next_there (suc left) from room = here_or_behind from (next_there left (from + 1) (omega (arith, room)))
+      (is_text image from) refl
 
   module _ (nodes : List Node) where
     -- a bare word is there, or not
@@ -202,7 +215,8 @@ module _ (image : Image) (within : IsWithin image) where
             suc n,
             omega (arith, at),
             record {
-              ends = subst (λ (xs : List ℕ). Contains xs last) (sym more) (has-later p last (range_addresses (p + 4) last) range.ends);
+              ends = subst (λ (xs : List ℕ). Contains xs last) (sym more)
+                  (has-later p last (range_addresses (p + 4) last) range.ends);
               words = subst (λ (xs : List ℕ). AllByRecursion (IsBare image nodes) xs) (sym more) (bare, range.words);
               greatest = range.greatest;
             },
@@ -214,7 +228,8 @@ module _ (image : Image) (within : IsWithin image) where
       -- the line at a word of the text
       line_there : (p : ℕ) → IsText image p → (line : Line) × IsLineAt image nodes verdicts p line × (p ≤ last_of line)
       line_there p text = elim (decide_node nodes p) [
-        | inl (n, at) ↦ let (verdict, merged) = merged_there nodes verdicts p graph has n at in (At p verdict, (refl, merged), omega arith)
+        | inl (n, at) ↦ let (verdict, merged) =
+            merged_there nodes verdicts p graph has n at in (At p verdict, (refl, merged), omega arith)
         | inr none ↦
             let (last, n, at, range) = range_there (2 ^ 32) p (omega arith) (record { text = text; bare = none }) in
             (Unreachable p last, (refl, range), omega (arith, at))
@@ -223,18 +238,21 @@ module _ (image : Image) (within : IsWithin image) where
       -- the lines from the next word on, where there are such from each later address on
       behind_word : (from : ℕ) → ((q : ℕ) → from < q
           → (lines : List Line) × AreAllFrom (IsByAddress image nodes verdicts) (Some q) lines) → (next : Option ℕ)
-          → ((q : ℕ) → next ≡ Some q → from < q) → (lines : List Line) × AreAllFrom (IsByAddress image nodes verdicts) next lines
+          → ((q : ℕ) → next ≡ Some q → from < q)
+          → (lines : List Line) × AreAllFrom (IsByAddress image nodes verdicts) next lines
       behind_word from later None order = ([], refl)
       behind_word from later (Some q) order = later q (order q refl)
 
       -- the next word lies after
-      next_behind : (from last : ℕ) (next : Option ℕ) → from < last + 4 → IsNextText image (last + 4) next → (q : ℕ) → next ≡ Some q
+      next_behind : (from last : ℕ) (next : Option ℕ) → from < last + 4 → IsNextText image (last + 4) next → (q : ℕ)
+          → next ≡ Some q
           → from < q
       next_behind from last None order is q same = absurd (cc same)
       next_behind from last (Some r) order is q same = let one : r ≡ q = cc same in omega (arith, order, is.1, one)
 
       -- the line of the next word, and the lines after it
-      at_word : (from : ℕ) → ((q : ℕ) → from < q → (lines : List Line) × AreAllFrom (IsByAddress image nodes verdicts) (Some q) lines)
+      at_word : (from : ℕ)
+          → ((q : ℕ) → from < q → (lines : List Line) × AreAllFrom (IsByAddress image nodes verdicts) (Some q) lines)
           → (next : Option ℕ) → IsNextText image from next
           → (lines : List Line) × AreAllFrom (IsByAddress image nodes verdicts) (Some from) lines
       at_word from later None is = ([], is)
@@ -247,7 +265,8 @@ module _ (image : Image) (within : IsWithin image) where
 
       -- no line is left where no address is
       none_left : (from : ℕ) → 2 ^ 32 ≤ from → IsNextText image from None
-      none_left from room = λ n at. none_of (is_text image n) (λ text. let below = within n text in omega (arith, room, at, below))
+      none_left from room = λ n at. none_of (is_text image n)
+          (λ text. let below = within n text in omega (arith, room, at, below))
 
       -- the lines from a place on
       pub addresses_left : (left from : ℕ) → 2 ^ 32 ≤ from + left

@@ -43,14 +43,16 @@ module _ (image : Image) (entry : ℕ) (g : Geometry) (configurations : List Con
 
   -- the way to a node names a path to its configuration, with the same fate
   pub named_fate : (n : ℕ) (earlier : List ℕ) (way : Way) (hits : Bool) → IsPath (graph_step nodes) 0 (n ∷ earlier)
-      → Names (graph_step nodes) way (n ∷ earlier) → path_hits nodes g (n ∷ earlier) ≡ hits → Ends (numbered configurations n)
+      → Names (graph_step nodes) way (n ∷ earlier) → path_hits nodes g (n ∷ earlier) ≡ hits
+      → Ends (numbered configurations n)
       → NamesFate image entry g Ends way hits
   named_fate n earlier way hits path names fate ends = record {
     path = map (numbered configurations) (n ∷ earlier);
     ends_in = ends_in n earlier path ends;
     names = record {
       steps = names.steps ∙ sym (length-map (n ∷ earlier) (numbered configurations));
-      choices = choices_to (successors image entry) entry configurations nodes is (n ∷ earlier) way.choices path names.choices;
+      choices = choices_to (successors image entry) entry configurations nodes is (n ∷ earlier) way.choices path
+          names.choices;
     };
     fate = ap (ends_in_hit g) (sym (same_fetches n earlier path)) ∙ fate;
   }
@@ -70,9 +72,11 @@ module _ (image : Image) (entry : ℕ) (g : Geometry) (configurations : List Con
   of_graph addresses (path, ends, same) =
       let found = path_from (successors image entry) entry configurations nodes is path ends.is_path in
       of_members found.0 found.1 (found.2 ∙ ends.path_is) ends.ends (same ∙ ap fetches_of (sym found.2)) where
-        of_members : (members : List ℕ) → IsPath (graph_step nodes) 0 members → map (numbered configurations) members ≡ ends.last ∷ ends.earlier
+        of_members : (members : List ℕ) → IsPath (graph_step nodes) 0 members
+            → map (numbered configurations) members ≡ ends.last ∷ ends.earlier
             → Ends ends.last → addresses ≡ fetches_of (map (numbered configurations) members)
-            → (n : ℕ) × (earlier : List ℕ) × IsPath (graph_step nodes) 0 (n ∷ earlier) × Ends (numbered configurations n)
+            → (n : ℕ) × (earlier : List ℕ) × IsPath (graph_step nodes) 0 (n ∷ earlier)
+            × Ends (numbered configurations n)
             × (addresses ≡ map (address_of nodes) (n ∷ earlier))
         of_members [] is_path whole end from = absurd is_path
         of_members (n ∷ earlier) is_path whole end from =
@@ -89,18 +93,21 @@ module _ (image : Image) (entry : ℕ) (g : Geometry) (configurations : List Con
 
   -- where all nodes of the configurations always hit, so do these
   pub always_hit : (n : ℕ) → n < length nodes → Ends (numbered configurations n)
-      → ((m : ℕ) → Ends (numbered configurations m) → m < length nodes → AllEnd nodes g m true) → IsRight image entry g Ends AlwaysHit
+      → ((m : ℕ) → Ends (numbered configurations m) → m < length nodes → AllEnd nodes g m true)
+      → IsRight image entry g Ends AlwaysHit
   always_hit n inside ends all =
       record { some = some_fetches n inside ends; each = λ addresses fetches. each_ends true all addresses fetches }
 
   -- where all always miss, so do these
   pub always_miss : (n : ℕ) → n < length nodes → Ends (numbered configurations n)
-      → ((m : ℕ) → Ends (numbered configurations m) → m < length nodes → AllEnd nodes g m false) → IsRight image entry g Ends AlwaysMiss
+      → ((m : ℕ) → Ends (numbered configurations m) → m < length nodes → AllEnd nodes g m false)
+      → IsRight image entry g Ends AlwaysMiss
   always_miss n inside ends all =
       record { some = some_fetches n inside ends; each = λ addresses fetches. each_ends false all addresses fetches }
 
 -- what is right of a node is what its verdict says
-verdict_is : (nodes : List Node) (g : Geometry) (verdicts : List Verdict) (n : ℕ) (verdict : Verdict) → IsRightAt nodes g verdicts n
+verdict_is : (nodes : List Node) (g : Geometry) (verdicts : List Verdict) (n : ℕ) (verdict : Verdict)
+    → IsRightAt nodes g verdicts n
     → slice_get verdicts n ≡ Some verdict → IsNodeVerdict nodes g n verdict
 verdict_is nodes g verdicts n verdict right is =
     let same : right.0 ≡ verdict = cc (is, right.1) in
@@ -118,12 +125,14 @@ way_ends nodes g n (Unknown hit miss) true way ends same =
 way_ends nodes g n (Unknown hit miss) false way ends same =
     subst (λ (w : Way). NamesEnd nodes g n w false) (sym same) ends.1
 
-module _ (image : Image) (entry : ℕ) (g : Geometry) (configurations : List Configuration) (nodes : List Node) (verdicts : List Verdict)
+module _ (image : Image) (entry : ℕ) (g : Geometry) (configurations : List Configuration) (nodes : List Node)
+    (verdicts : List Verdict)
     (is : IsGraphOf (successors image entry) entry configurations nodes)
     (right : (n : ℕ) → n < length nodes → IsRightAt nodes g verdicts n) where
   -- the configuration of a node is at the node's address
   at_address : (address n : ℕ) → IsNodeAt nodes address n → (numbered configurations n).at ≡ address
-  at_address address n here = sym (address_at (successors image entry) entry configurations nodes is n here.inside) ∙ here.at
+  at_address address n here = sym (address_at (successors image entry) entry configurations nodes is n here.inside)
+      ∙ here.at
 
   -- the node of a configuration at an address is there
   node_there : (address n : ℕ) → n < length nodes → (numbered configurations n).at ≡ address → IsNodeAt nodes address n
@@ -145,21 +154,27 @@ module _ (image : Image) (entry : ℕ) (g : Geometry) (configurations : List Con
   merged_right address AlwaysHit have =
       let (n, here) = have.some in
       always_hit image entry g configurations nodes is (IsAt address) n here.inside (at_address address n here)
-      (λ m at inside. verdict_is nodes g verdicts m AlwaysHit (right m inside) (have.each m (node_there address m inside at)))
+      (λ m at inside. verdict_is nodes g verdicts m AlwaysHit (right m inside)
+      (have.each m (node_there address m inside at)))
   merged_right address AlwaysMiss have =
       let (n, here) = have.some in
       always_miss image entry g configurations nodes is (IsAt address) n here.inside (at_address address n here)
-      (λ m at inside. verdict_is nodes g verdicts m AlwaysMiss (right m inside) (have.each m (node_there address m inside at)))
-  merged_right address (Unknown hit miss) ways = (way_right address true hit ways.0, way_right address false miss ways.1)
+      (λ m at inside. verdict_is nodes g verdicts m AlwaysMiss (right m inside)
+      (have.each m (node_there address m inside at)))
+  merged_right address (Unknown hit miss) ways =
+      (way_right address true hit ways.0, way_right address false miss ways.1)
 
   -- no path ends at an address without a node
   pub bare_unreached : (address : ℕ) → ((n : ℕ) → IsNodeAt nodes address n → ⊥) → IsUnreached image entry address
   bare_unreached address bare addresses fetches =
-      let (n, earlier, path, at, same) = of_graph image entry g configurations nodes is (IsAt address) addresses fetches in
-      bare n (node_there address n (member_inside (successors image entry) entry configurations nodes is n earlier path) at)
+      let (n, earlier, path, at, same) = of_graph image entry g configurations nodes is (IsAt address) addresses
+      fetches in
+      bare n (node_there address n (member_inside (successors image entry) entry configurations nodes is n earlier path)
+      at)
 
   -- the configuration of a node is that of no other
-  only_node : (n m : ℕ) → n < length configurations → m < length configurations → numbered configurations m ≡ numbered configurations n
+  only_node : (n m : ℕ) → n < length configurations → m < length configurations
+      → numbered configurations m ≡ numbered configurations n
       → m ≡ n
   only_node n m below below' same = is.apart m n below' below same
 
@@ -178,11 +193,14 @@ module _ (image : Image) (entry : ℕ) (g : Geometry) (configurations : List Con
       (sym (only_node n m (omega (arith, inside, long)) (omega (arith, below, long)) same))
       (verdict_is nodes g verdicts n AlwaysMiss (right n inside) has))
   context_right n (Unknown hit miss) inside long has =
-      let ends : IsNodeVerdict nodes g n (Unknown hit miss) = verdict_is nodes g verdicts n (Unknown hit miss) (right n inside) has in
+      let ends : IsNodeVerdict nodes g n (Unknown hit miss) =
+      verdict_is nodes g verdicts n (Unknown hit miss) (right n inside) has in
       let a : NamesEnd nodes g n hit true = ends.0 in
       let b : NamesEnd nodes g n miss false = ends.1 in (
-        named_fate image entry g configurations nodes is (λ d. d ≡ numbered configurations n) n a.earlier hit true a.is_path
+        named_fate image entry g configurations nodes is (λ d. d ≡ numbered configurations n) n a.earlier hit true
+            a.is_path
             a.names a.fate refl,
-        named_fate image entry g configurations nodes is (λ d. d ≡ numbered configurations n) n b.earlier miss false b.is_path
+        named_fate image entry g configurations nodes is (λ d. d ≡ numbered configurations n) n b.earlier miss false
+            b.is_path
             b.names b.fate refl,
       )

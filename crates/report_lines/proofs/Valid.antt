@@ -28,7 +28,8 @@ all_valid : (verdicts : List Verdict) → ((k : ℕ) (v : Verdict) → slice_get
     → list_all is_valid_verdict verdicts ≡ true
 all_valid [] each = refl
 all_valid (v ∷ verdicts) each =
-    and_from (is_valid_verdict v) (list_all is_valid_verdict verdicts) (each 0 v refl) (all_valid verdicts (λ k w is. each (suc k) w is))
+    and_from (is_valid_verdict v) (list_all is_valid_verdict verdicts) (each 0 v refl)
+    (all_valid verdicts (λ k w is. each (suc k) w is))
 
 -- right verdicts are valid
 pub right_valid : (nodes : List Node) (g : Geometry) (verdicts : List Verdict)

@@ -10,12 +10,14 @@ use Rattle.elf_spec.specs.Word.{word_at, is_text, IsText}
 use Rattle.report_spec.specs.Report.{words_from, range_addresses}
 
 -- a number below all of a rising list comes before it
-pub rising_cons : (x : ℕ) (xs : List ℕ) → IsStrictlyIncreasing xs → ((y : ℕ) → Contains xs y → x < y) → IsStrictlyIncreasing (x ∷ xs)
+pub rising_cons : (x : ℕ) (xs : List ℕ) → IsStrictlyIncreasing xs → ((y : ℕ) → Contains xs y → x < y)
+    → IsStrictlyIncreasing (x ∷ xs)
 rising_cons x [] rising below k inside = absurd (omega (arith, inside))
 rising_cons x (y ∷ xs) rising below zero inside = below y (has-first y xs)
 rising_cons x (y ∷ xs) rising below (suc k) inside =
     let next : suc k + 1 ≡ suc (k + 1) = omega arith in
-    subst (λ (i : ℕ). slice_index_or (y ∷ xs) k 0 < slice_index_or (x ∷ y ∷ xs) i 0) (sym next) (rising k (omega (arith, inside)))
+    subst (λ (i : ℕ). slice_index_or (y ∷ xs) k 0 < slice_index_or (x ∷ y ∷ xs) i 0) (sym next)
+    (rising k (omega (arith, inside)))
 
 -- an address of the text is a multiple of 4: by the test
 whole_word : (image : Image) (p : ℕ) (whole : Bool) → (p % 4 == 0) ≡ whole → is_text image p ≡ true → p % 4 ≡ 0
@@ -42,7 +44,8 @@ pub record IsListed (image : Image) (from : ℕ) (words : List ℕ) : Type 0 whe
   pub complete : (x : ℕ) → IsText image x → from ≤ x → Contains words x
 
 -- one word more before the others
-listed_word : (image : Image) (p : ℕ) (words : List ℕ) → IsText image p → IsListed image (p + 4) words → IsListed image p (p ∷ words)
+listed_word : (image : Image) (p : ℕ) (words : List ℕ) → IsText image p → IsListed image (p + 4) words
+    → IsListed image p (p ∷ words)
 listed_word image p words text listed = record {
   rising = rising_cons p words listed.rising (λ y has. let at = (listed.sound y has).1 in omega (arith, at));
   sound = λ x has. elim (has-cases p x words has) [
@@ -53,7 +56,8 @@ listed_word image p words text listed = record {
 } where
   by_test : (x : ℕ) → IsText image x → p ≤ x → (same : Bool) → (x == p) ≡ same → Contains (p ∷ words) x
   by_test x x_text from true is =
-      let same : x ≡ p = grind (arith, nat_tests, is) in subst (λ (y : ℕ). Contains (p ∷ words) y) (sym same) (has-first p words)
+      let same : x ≡ p = grind (arith, nat_tests, is) in subst (λ (y : ℕ). Contains (p ∷ words) y) (sym same)
+      (has-first p words)
   by_test x x_text from false is =
       let other : p < x = grind (arith, nat_tests, is, from) in
       let whole = text_aligned image p text in
@@ -71,7 +75,8 @@ listed_words image p (suc n) words (text, all) listed =
     (listed_words image (p + 4) n words all (subst (λ (q : ℕ). IsListed image q words) behind listed))
 
 -- a fact on each that follows from another
-pub all_weaker : {A : Type 0} (P Q : A → Type 0) (xs : List A) → ((x : A) → P x → Q x) → AllByRecursion P xs → AllByRecursion Q xs
+pub all_weaker : {A : Type 0} (P Q : A → Type 0) (xs : List A) → ((x : A) → P x → Q x) → AllByRecursion P xs
+    → AllByRecursion Q xs
 all_weaker P Q [] gives all = tt
 all_weaker P Q (x ∷ xs) gives (here, later) = (gives x here, all_weaker P Q xs gives later)
 

@@ -17,7 +17,8 @@ abbrev pub IsWithin : Image → Type 0
 IsWithin image = (p : ℕ) → IsText image p → p < 2 ^ 32
 
 -- the configurations of the accepted program, their graph, and a right verdict for each node
-pub record AreFindings (image : Image) (entry : ℕ) (g : Geometry) (configurations : List Configuration) (nodes : List Node)
+pub record AreFindings (image : Image) (entry : ℕ) (g : Geometry) (configurations : List Configuration)
+    (nodes : List Node)
     (verdicts : List Verdict) : Type 0 where
   pub within : IsWithin image
   pub accepted : (layers : List (List Configuration)) × IsAccepted (successors image entry) image entry layers

@@ -12,9 +12,11 @@ newest-some frame [] = (frame, refl)
 newest-some frame (next ∷ frames) = newest-some next frames
 
 -- it has a return address exactly there
-pub back-as_deep : (frames : List Frame) → IsTrue (has_back_as_deep (length frames) (option_map (λ frame. frame.back) (newest frames)))
+pub back-as_deep : (frames : List Frame)
+    → IsTrue (has_back_as_deep (length frames) (option_map (λ frame. frame.back) (newest frames)))
 back-as_deep [] = refl
 back-as_deep (frame ∷ frames) =
     let last = newest-some frame frames in
-    let P : Option Frame → Type 0 = λ newest. IsTrue (has_back_as_deep (length (frame ∷ frames)) (option_map (λ frame. frame.back) newest)) in
+    let P : Option Frame → Type 0 = λ newest. IsTrue (has_back_as_deep (length (frame ∷ frames))
+    (option_map (λ frame. frame.back) newest)) in
     subst P (sym last.1) (grind (arith, nat_tests))

@@ -18,7 +18,8 @@ use Rattle.path_model.proofs.Edges.{successor-from_node, node-from_successor}
 pub record NotesOne (before after : List ℕ) (from : ℕ) (to : Option ℕ) : Type 0 where
   pub as_long : length after ≡ length before
   pub made : (m : ℕ) → to ≡ Some m → from < m → m < length before → slice_index after m ≡ from
-  pub else_same : (m : ℕ) → (slice_index after m ≡ slice_index before m) ⊎ ((to ≡ Some m) × (from < m) × (slice_index after m ≡ from))
+  pub else_same : (m : ℕ)
+      → (slice_index after m ≡ slice_index before m) ⊎ ((to ≡ Some m) × (from < m) × (slice_index after m ≡ from))
 
 -- a note is one
 pub noted-one : (before : List ℕ) (from : ℕ) (to : Option ℕ) → NotesOne before (noted before from to) from to
@@ -50,21 +51,27 @@ noted-one before from (Some to) = ⊎_elim
     }))
     (cases_lt from to)
   where
-    at_place : (m : ℕ) → m ≡ to → from < to → (get_or (set before to from) m 0 ≡ get_or before m 0) ⊎ ((Some to ≡ Some m) × (from < m) × (get_or (set before to from) m 0 ≡ from))
+    at_place : (m : ℕ) → m ≡ to → from < to
+        → (get_or (set before to from) m 0 ≡ get_or before m 0)
+        ⊎ ((Some to ≡ Some m) × (from < m) × (get_or (set before to from) m 0 ≡ from))
     at_place m same up = ⊎_elim
         (λ (within : to < length before).
         let P : ℕ → Type 0 = λ k. get_or (set before to from) k 0 ≡ from in
         inr (ap Some (sym same), omega arith, subst P (sym same) (get_or-set_same before to from 0 within)))
         (λ (past : length before ≤ to).
-        inl (get_or_past (set before to from) m 0 (omega (arith, length-set before to from)) ∙ sym (get_or_past before m 0 (omega arith))))
+        inl (get_or_past (set before to from) m 0 (omega (arith, length-set before to from)) ∙ sym
+        (get_or_past before m 0 (omega arith))))
         (cases_lt to (length before))
 
 -- the same, of an equal list
-pub note-made : (before after : List ℕ) (from : ℕ) (to : Option ℕ) → after ≡ noted before from to → NotesOne before after from to
-note-made before after from to is = let P : List ℕ → Type 0 = λ after. NotesOne before after from to in subst P (sym is) (noted-one before from to)
+pub note-made : (before after : List ℕ) (from : ℕ) (to : Option ℕ) → after ≡ noted before from to
+    → NotesOne before after from to
+note-made before after from to is = let P : List ℕ → Type 0 =
+    λ after. NotesOne before after from to in subst P (sym is) (noted-one before from to)
 
 -- at first each node is noted at itself, which tells of none
-pub none-noted : (nodes : List Node) (before : List ℕ) → before ≡ range_with_len 0 (length nodes) → AreNoted nodes 0 before
+pub none-noted : (nodes : List Node) (before : List ℕ) → before ≡ range_with_len 0 (length nodes)
+    → AreNoted nodes 0 before
 none-noted nodes before is =
     let P : List ℕ → Type 0 = λ before. AreNoted nodes 0 before in
     subst P (sym is) (record {
@@ -75,7 +82,8 @@ none-noted nodes before is =
 
 -- after both successors of node i
 pub noted-more : (nodes : List Node) (before mid after : List ℕ) (i : ℕ) (node : Node) → slice_get nodes i ≡ Some node
-    → NotesOne before mid i node.first → NotesOne mid after i node.second → AreNoted nodes i before → AreNoted nodes (i + 1) after
+    → NotesOne before mid i node.first → NotesOne mid after i node.second → AreNoted nodes i before
+    → AreNoted nodes (i + 1) after
 noted-more nodes before mid after i node found one two were = record {
   one_each = two.as_long ∙ one.as_long ∙ were.one_each;
   sound = λ m inside less. ⊎_elim
@@ -96,29 +104,38 @@ noted-more nodes before mid after i node found one two were = record {
       let named = node-from_successor nodes n m leads in
       let is : named.0 ≡ node = same_Some named.0 node (cc) in
       ⊎_elim
-      (λ (first : named.0.first ≡ Some m). still mid after node.second i m two (omega (arith, one.made m (cc) (omega arith) (omega (arith, were.one_each)))))
-      (λ (second : named.0.second ≡ Some m). omega (arith, two.made m (cc) (omega arith) (omega (arith, were.one_each, one.as_long))))
+      (λ (first : named.0.first ≡ Some m). still mid after node.second i m two
+      (omega (arith, one.made m (cc) (omega arith) (omega (arith, were.one_each)))))
+      (λ (second : named.0.second ≡ Some m). omega (
+        arith,
+        two.made m (cc) (omega arith) (omega (arith, were.one_each, one.as_long)),
+      ))
       named.2)
-      (λ (other : n ≡ i → ⊥). still mid after node.second i m two (still before mid node.first i m one (were.complete n m (omega arith) up inside leads)))
+      (λ (other : n ≡ i → ⊥). still mid after node.second i m two
+      (still before mid node.first i m one (were.complete n m (omega arith) up inside leads)))
       (cases_eq n i);
 }
   where
-    still : (before after : List ℕ) (to : Option ℕ) (i m : ℕ) → NotesOne before after i to → slice_index before m < m → slice_index after m < m
+    still : (before after : List ℕ) (to : Option ℕ) (i m : ℕ) → NotesOne before after i to → slice_index before m < m
+        → slice_index after m < m
     still before after to i m one less = ⊎_elim
         (λ (same : slice_index after m ≡ slice_index before m). omega arith)
         (λ (new : (to ≡ Some m) × (i < m) × (slice_index after m ≡ i)). omega (arith, new.1, new.2))
         (one.else_same m)
 
 -- a row that was lent whole and came back is the new one
-pub row-back : (new old : List ℕ) (len : ℕ) → len ≡ length old → length new ≡ length old → take len (new ++ drop (length new) old) ≡ new
+pub row-back : (new old : List ℕ) (len : ℕ) → len ≡ length old → length new ≡ length old
+    → take len (new ++ drop (length new) old) ≡ new
 row-back new old len is same =
     take-append-le len new (drop (length new) old) (omega arith) ∙ take_all len new (omega arith)
 
 -- where all nodes of a graph are noted, each but the first has a smaller one before it
-pub all-noted : (nodes : List Node) (before : List ℕ) → IsGraph nodes → AreNoted nodes (length nodes) before → AreBefore nodes before
+pub all-noted : (nodes : List Node) (before : List ℕ) → IsGraph nodes → AreNoted nodes (length nodes) before
+    → AreBefore nodes before
 all-noted nodes before graph are =
     let smaller : (m : ℕ) → 1 ≤ m → m < length nodes → slice_index before m < m =
-    λ m some inside. let reached = graph.reached m some inside in are.complete reached.0 m (omega (arith, reached.1)) reached.1 inside reached.2 in
+    λ m some inside. let reached = graph.reached m some inside in are.complete reached.0 m (omega (arith, reached.1))
+    reached.1 inside reached.2 in
     record {
       one_each = are.one_each;
       smaller = smaller;

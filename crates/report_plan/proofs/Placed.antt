@@ -16,7 +16,12 @@ use Rattle.report_plan.specs.Kept.{AreInOrder}
 -- the numbers from 0 on are those below the count
 range-members : (count n : ℕ) → Contains (range_with_len 0 count) n ↔ (n < count)
 range-members count n = (
-  λ (k, within, same). omega (arith, get_or-range_with_len 0 count k n (omega (arith, length-range_with_len 0 count)), length-range_with_len 0 count, same),
+  λ (k, within, same). omega (
+    arith,
+    get_or-range_with_len 0 count k n (omega (arith, length-range_with_len 0 count)),
+    length-range_with_len 0 count,
+    same,
+  ),
   λ below. (n, omega (arith, length-range_with_len 0 count), get_or-range_with_len 0 count n n below ∙ zero-add n),
 )
 
@@ -27,8 +32,10 @@ sorted-in_order nodes order rising moved = record {
   one_each = length_permutation (range_with_len 0 (length nodes)) order moved ∙ length-range_with_len 0 (length nodes);
   rising = rising;
   members = λ n. (
-    λ inside. (range-members (length nodes) n).0 (Contains-permutation order (range_with_len 0 (length nodes)) n (IsPermutation-sym (range_with_len 0 (length nodes)) order moved) inside),
-    λ below. Contains-permutation (range_with_len 0 (length nodes)) order n moved ((range-members (length nodes) n).1 below),
+    λ inside. (range-members (length nodes) n).0 (Contains-permutation order (range_with_len 0 (length nodes)) n
+        (IsPermutation-sym (range_with_len 0 (length nodes)) order moved) inside),
+    λ below. Contains-permutation (range_with_len 0 (length nodes)) order n moved
+        ((range-members (length nodes) n).1 below),
   );
 }
 
@@ -45,7 +52,8 @@ pub record AreUpTo (nodes : List Node) (order : List ℕ) (address count : ℕ) 
   pub within : count ≤ length order
 
 -- those below are no more than those up to the address
-pub below-up_to : (nodes : List Node) (order : List ℕ) (address first last : ℕ) → AreBelow nodes order address first → AreUpTo nodes order address last → first ≤ last
+pub below-up_to : (nodes : List Node) (order : List ℕ) (address first last : ℕ) → AreBelow nodes order address first
+    → AreUpTo nodes order address last → first ≤ last
 below-up_to nodes order address first last below up_to = ⊎_elim
     (λ (less : last < first).
     let one = below.below last 0 (omega arith) less in
@@ -55,8 +63,10 @@ below-up_to nodes order address first last below up_to = ⊎_elim
     (cases_lt last first)
 
 -- those between are the nodes at the address
-pub between-at : (nodes : List Node) (order : List ℕ) (address first last : ℕ) → AreInOrder nodes order → AreBelow nodes order address first
-    → AreUpTo nodes order address last → (n : ℕ) → Contains (take (last - first) (drop first order)) n ↔ IsNodeAt nodes address n
+pub between-at : (nodes : List Node) (order : List ℕ) (address first last : ℕ) → AreInOrder nodes order
+    → AreBelow nodes order address first
+    → AreUpTo nodes order address last → (n : ℕ)
+    → Contains (take (last - first) (drop first order)) n ↔ IsNodeAt nodes address n
 between-at nodes order address first last are below up_to n = (here-at, at-here)
   where
     here-at : Contains (take (last - first) (drop first order)) n → IsNodeAt nodes address n
@@ -64,7 +74,8 @@ between-at nodes order address first last are below up_to n = (here-at, at-here)
         let within = up_to.within in
         let before = below-up_to nodes order address first last below up_to in
         let long : length (take (last - first) (drop first order)) ≡ last - first = search (rules, places) in
-        let place : get_or (take (last - first) (drop first order)) k n ≡ get_or order (first + k) n = grind (arith, places) in
+        let place : get_or (take (last - first) (drop first order)) k n ≡ get_or order (first + k) n =
+        grind (arith, places) in
         let is : get_or order (first + k) n ≡ n = sym place ∙ same in
         let P : ℕ → Type 0 = λ m. address ≤ address_of nodes m in
         let Q : ℕ → Type 0 = λ m. address_of nodes m ≤ address in
@@ -83,13 +94,16 @@ between-at nodes order address first last are below up_to n = (here-at, at-here)
         let P : ℕ → Type 0 = λ m. address_of nodes m < address in
         let Q : ℕ → Type 0 = λ m. address < address_of nodes m in
         let from : first ≤ k = ⊎_elim
-        (λ (less : k < first). let under = subst P listed.2 (below.below k n (omega arith) less) in absurd (omega (arith, at.at)))
+        (λ (less : k < first). let under = subst P listed.2 (below.below k n (omega arith) less) in absurd
+        (omega (arith, at.at)))
         (λ (fine : first ≤ k). fine)
         (cases_lt k first) in
         let to : k < last = ⊎_elim
         (λ (fine : k < last). fine)
-        (λ (more : last ≤ k). let above = subst Q listed.2 (up_to.others k n more listed.1) in absurd (omega (arith, at.at)))
+        (λ (more : last ≤ k). let above = subst Q listed.2 (up_to.others k n more listed.1) in absurd
+        (omega (arith, at.at)))
         (cases_lt k last) in
         let long : length (take (last - first) (drop first order)) ≡ last - first = search (rules, places) in
-        let place : get_or (take (last - first) (drop first order)) (k - first) n ≡ get_or order k n = grind (arith, places) in
+        let place : get_or (take (last - first) (drop first order)) (k - first) n ≡ get_or order k n =
+        grind (arith, places) in
         (k - first, omega arith, place ∙ listed.2)

@@ -13,13 +13,15 @@ use Rattle.report_spec.specs.Text.{context_text}
 abbrev pub edges_text : Option ℕ → Option ℕ → List ℕ
 edges_text None taken = codes " stop\n"
 edges_text (Some next) None = codes " next " ++ (decimal next ++ codes "\n")
-edges_text (Some next) (Some taken) = codes " next " ++ (decimal next ++ (codes " taken " ++ (decimal taken ++ codes "\n")))
+edges_text (Some next) (Some taken) =
+    codes " next " ++ (decimal next ++ (codes " taken " ++ (decimal taken ++ codes "\n")))
 
 abbrev pub graph_line_text : GraphLine → List ℕ
 graph_line_text line = context_text line.node line.at line.depth line.back ++ edges_text line.next line.taken
 
 -- the line is that of a configuration with a number: its successors are those with the line's numbers, in order
-pub record IsGraphLine (step : Step) (configurations : List Configuration) (number : ℕ) (c : Configuration) (line : GraphLine) : Type 0 where
+pub record IsGraphLine (step : Step) (configurations : List Configuration) (number : ℕ) (c : Configuration)
+    (line : GraphLine) : Type 0 where
   pub node : line.node ≡ number
   pub at : line.at ≡ c.at
   pub depth : line.depth ≡ length c.frames

@@ -47,7 +47,8 @@ IsRightLine image entry g (Context node at depth back verdict) = ⊥
 
 -- no range could be joined with the one after it
 abbrev pub AreGreatest : List Line → Type 0
-AreGreatest (Unreachable first last ∷ Unreachable next end ∷ lines) = (next ≡ last + 4 → ⊥) × AreGreatest (Unreachable next end ∷ lines)
+AreGreatest (Unreachable first last ∷ Unreachable next end ∷ lines) =
+    (next ≡ last + 4 → ⊥) × AreGreatest (Unreachable next end ∷ lines)
 AreGreatest (Unreachable first last ∷ At at verdict ∷ lines) = AreGreatest (At at verdict ∷ lines)
 AreGreatest (Unreachable first last ∷ Context node at depth back verdict ∷ lines) = AreGreatest lines
 AreGreatest (Unreachable first last ∷ []) = Unit {0}
@@ -65,7 +66,8 @@ pub record AreByAddress (image : Image) (entry : ℕ) (g : Geometry) (lines : Li
 -- the line of the configuration with a number: its verdict is that of this configuration alone
 abbrev pub IsContextLine : Image → ℕ → Geometry → ℕ → Configuration → Line → Type 0
 IsContextLine image entry g number c (Context node at depth back verdict) =
-    (node ≡ number) × (at ≡ c.at) × (depth ≡ length c.frames) × (back ≡ option_map (λ frame. frame.back) (newest c.frames))
+    (node ≡ number) × (at ≡ c.at) × (depth ≡ length c.frames)
+    × (back ≡ option_map (λ frame. frame.back) (newest c.frames))
     × IsRight image entry g (λ d. d ≡ c) verdict
 IsContextLine image entry g number c (At at verdict) = ⊥
 IsContextLine image entry g number c (Unreachable first last) = ⊥
@@ -87,4 +89,5 @@ AreByContext image entry g lines =
 -- the text is a report of the program that begins at the entry
 abbrev pub IsReport : Image → ℕ → Geometry → Bool → List ℕ → Type 0
 IsReport image entry g contexts text =
-    (lines : List Line) × (text ≡ text_of lines) × MatchBool contexts (AreByContext image entry g lines) (AreByAddress image entry g lines)
+    (lines : List Line) × (text ≡ text_of lines) × MatchBool contexts (AreByContext image entry g lines)
+    (AreByAddress image entry g lines)

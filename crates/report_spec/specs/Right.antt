@@ -26,10 +26,12 @@ pub record EndsIn (image : Image) (entry : ℕ) (Ends : Configuration → Type 0
 
 -- the addresses are those that such a path fetches
 abbrev pub Fetches : Image → ℕ → (Configuration → Type 0) → List ℕ → Type 0
-Fetches image entry Ends addresses = (path : List Configuration) × EndsIn image entry Ends path × (addresses ≡ fetches_of path)
+Fetches image entry Ends addresses =
+    (path : List Configuration) × EndsIn image entry Ends path × (addresses ≡ fetches_of path)
 
 -- the way names such a path, and that path ends in a hit, or in a miss
-pub record NamesFate (image : Image) (entry : ℕ) (g : Geometry) (Ends : Configuration → Type 0) (way : Way) (hits : Bool) : Type 0 where
+pub record NamesFate (image : Image) (entry : ℕ) (g : Geometry) (Ends : Configuration → Type 0) (way : Way)
+    (hits : Bool) : Type 0 where
   pub path : List Configuration
   pub ends_in : EndsIn image entry Ends path
   pub names : Names (successors image entry) way path
@@ -39,4 +41,5 @@ pub record NamesFate (image : Image) (entry : ℕ) (g : Geometry) (Ends : Config
 abbrev pub IsRight : Image → ℕ → Geometry → (Configuration → Type 0) → Verdict → Type 0
 IsRight image entry g Ends AlwaysHit = IsAlwaysHit g (Fetches image entry Ends)
 IsRight image entry g Ends AlwaysMiss = IsAlwaysMiss g (Fetches image entry Ends)
-IsRight image entry g Ends (Unknown hit miss) = NamesFate image entry g Ends hit true × NamesFate image entry g Ends miss false
+IsRight image entry g Ends (Unknown hit miss) =
+    NamesFate image entry g Ends hit true × NamesFate image entry g Ends miss false

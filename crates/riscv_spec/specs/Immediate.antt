@@ -8,7 +8,8 @@ signed bits n = if nat_lt n (2 ^ (bits - 1)) then pos n else negsuc (2 ^ bits - 
 
 -- JAL: offset bits 20, 10 to 1, 11 and 19 to 12, from bit 31 downwards
 abbrev pub jal_bits : ℕ → ℕ
-jal_bits word = 2 ^ 20 * field 31 1 word + (2 ^ 12 * field 12 8 word + (2 ^ 11 * field 20 1 word + 2 * field 21 10 word))
+jal_bits word = 2 ^ 20 * field 31 1 word + (2 ^ 12 * field 12 8 word
+    + (2 ^ 11 * field 20 1 word + 2 * field 21 10 word))
 
 abbrev pub jal_offset : ℕ → ℤ
 jal_offset word = signed 21 (jal_bits word)

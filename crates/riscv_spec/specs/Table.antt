@@ -46,7 +46,8 @@ rows =
     row 0b0110111 any_word plain  -- LUI
     ∷ row 0b0010111 any_word plain  -- AUIPC
     ∷ row 0b1101111 any_word (λ word. jal_kind (link_named (rd word)) word)  -- JAL
-    ∷ row 0b1100111 (λ word. funct3 word == 0 && (rd word == 0 && imm12 word == 0)) (λ word. return_kind (link_named (rs1 word)))  -- JALR
+    ∷ row 0b1100111 (λ word. funct3 word == 0 && (rd word == 0 && imm12 word == 0))
+    (λ word. return_kind (link_named (rs1 word)))  -- JALR
     ∷ row 0b1100111 (λ word. funct3 word == 0) (λ word. Computed)
     ∷ row 0b1100011 (has_funct3 (0 ∷ 1 ∷ 4 ∷ 5 ∷ 6 ∷ 7 ∷ [])) (λ word. Branch (branch_offset word))  -- BRANCH
     ∷ row 0b0000011 (has_funct3 (0 ∷ 1 ∷ 2 ∷ 4 ∷ 5 ∷ [])) plain  -- LOAD

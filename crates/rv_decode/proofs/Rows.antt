@@ -72,4 +72,17 @@ pub no_row : (word : ℕ)
 unfolding kind_of
 no_row word lui auipc jal jalr branch load store op_imm op misc_mem system =
     let no : (code : ℕ) → opcode word ≢ code → (opcode word == code) ≡ false = ne_eqb (opcode word) in
-    rw (no 0b0110111 lui, no 0b0010111 auipc, no 0b1101111 jal, no 0b1100111 jalr, no 0b1100011 branch, no 0b0000011 load, no 0b0100011 store, no 0b0010011 op_imm, no 0b0110011 op, no 0b0001111 misc_mem, no 0b1110011 system)
+    rw (
+      no 0b0110111 lui,
+      no 0b0010111 auipc,
+      no 0b1101111 jal,
+      no 0b1100111 jalr,
+      no 0b1100011 branch,
+      no 0b0000011 load,
+      no 0b0100011 store,
+      no 0b0010011 op_imm,
+      no 0b0110011 op,
+      no 0b0001111 misc_mem,
+      no 0b1110011
+          system,
+    )

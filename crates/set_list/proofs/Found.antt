@@ -15,12 +15,14 @@ pub record AreFound (wanted items : List ℕ) (found passed : ℕ) : Type 0 wher
 
 -- the item is the next wanted number, and so below the one after it
 pub found_more : (wanted items : List ℕ) (found passed : ℕ) → IsStrictlyIncreasing wanted → IsStrictlyIncreasing items
-    → AreFound wanted items found passed → found < length wanted → passed < length items → get_or wanted found 0 ≡ get_or items passed 0
+    → AreFound wanted items found passed → found < length wanted → passed < length items
+    → get_or wanted found 0 ≡ get_or items passed 0
     → AreFound wanted items (found + 1) (passed + 1)
 found_more wanted items found passed wanted_up items_up before more inside same = record {
   within = omega arith;
   found_each = λ k below. elim (cases_eq k found) [
-    | inl last ↦ subst (Contains items) (sym (ap (λ n. get_or wanted n 0) last ∙ same)) (Contains-get_or items passed 0 inside)
+    | inl last ↦ subst (Contains items) (sym (ap (λ n. get_or wanted n 0) last ∙ same))
+        (Contains-get_or items passed 0 inside)
     | inr other ↦ before.found_each k (omega arith)
   ];
   missing = λ left k below equal.
@@ -30,14 +32,16 @@ found_more wanted items found passed wanted_up items_up before more inside same 
             let here : get_or items k 0 ≡ get_or items passed 0 = ap (λ n. get_or items n 0) last in
             omega arith
         | inr other ↦
-            let lower : get_or items k 0 < get_or items passed 0 = AllPairs-from_increasing items items_up k passed 0 (omega arith) inside in
+            let lower : get_or items k 0 < get_or items passed 0 =
+            AllPairs-from_increasing items items_up k passed 0 (omega arith) inside in
             omega arith
       ];
 }
 
 -- the item is not the next wanted number
 pub found_same : (wanted items : List ℕ) (found passed : ℕ) → AreFound wanted items found passed
-    → (found < length wanted → get_or wanted found 0 ≡ get_or items passed 0 → ⊥) → AreFound wanted items found (passed + 1)
+    → (found < length wanted → get_or wanted found 0 ≡ get_or items passed 0 → ⊥)
+    → AreFound wanted items found (passed + 1)
 found_same wanted items found passed before differs = record {
   within = before.within;
   found_each = before.found_each;
@@ -48,7 +52,8 @@ found_same wanted items found passed before differs = record {
 }
 
 -- after the last item
-pub missing_from_found : (wanted items : List ℕ) (found passed : ℕ) → AreFound wanted items found passed → length items ≤ passed
+pub missing_from_found : (wanted items : List ℕ) (found passed : ℕ) → AreFound wanted items found passed
+    → length items ≤ passed
     → found < length wanted → Contains items (get_or wanted found 0) → ⊥
 missing_from_found wanted items found passed walked all left there =
     let inside = there.1 in

@@ -9,14 +9,16 @@ use Rattle.std.specs.Ordering.{nat_cmp}
 use Rattle.set_list.specs.Rising.{AllPairs-insert, rising_from_AllPairs}
 
 -- no number is above a later one
-never_falls : (xs : List ℕ) → IsStrictlyIncreasing xs → (i j : ℕ) → i ≤ j → j < length xs → get_or xs i 0 ≤ get_or xs j 0
+never_falls : (xs : List ℕ) → IsStrictlyIncreasing xs → (i j : ℕ) → i ≤ j → j < length xs
+    → get_or xs i 0 ≤ get_or xs j 0
 never_falls xs up i j before inside = elim (cases_eq i j) [
   | inl same ↦ let equal = ap (λ n. get_or xs n 0) same in omega arith
   | inr other ↦ let less = AllPairs-from_increasing xs up i j 0 (omega arith) inside in omega arith
 ]
 
 -- a number put where the search says that it belongs
-pub rising-insert : (xs : List ℕ) (i x : ℕ) → IsStrictlyIncreasing xs → IsBinarySearchResult (λ y. nat_cmp y x) xs (Err i) → IsStrictlyIncreasing (insert xs i x)
+pub rising-insert : (xs : List ℕ) (i x : ℕ) → IsStrictlyIncreasing xs
+    → IsBinarySearchResult (λ y. nat_cmp y x) xs (Err i) → IsStrictlyIncreasing (insert xs i x)
 rising-insert xs i x up place =
     let (within, below, above) = searched xs x (Err i) place (never_falls xs up) in
     rising_from_AllPairs _ (AllPairs-insert (λ a b. a < b) xs i x within (AllPairs-from_increasing xs up)

@@ -12,7 +12,8 @@ related : {X : Type 0} (R : X → X → Type 0) (a b c d : X) → a ≡ c → b 
 related R a b c d p q r = subst (λ v. R v b) (sym p) (subst (λ v. R c v) (sym q) r)
 
 -- after the new element stands what stood one place before
-get_or-insert_behind : {X : Type 0} (xs : List X) (i : ℕ) (y d : X) (k : ℕ) → i < k → i ≤ length xs → get_or (insert xs i y) k d ≡ get_or xs (k - 1) d
+get_or-insert_behind : {X : Type 0} (xs : List X) (i : ℕ) (y d : X) (k : ℕ) → i < k → i ≤ length xs
+    → get_or (insert xs i y) k d ≡ get_or xs (k - 1) d
 get_or-insert_behind xs i y d k behind within =
     let same : k ≡ (k - 1) + 1 = omega arith in
     ap (λ n. get_or (insert xs i y) n d) same ∙ get_or-insert_above xs i y d (k - 1) (omega arith) within
@@ -24,19 +25,25 @@ pub AllPairs-insert : {X : Type 0} (R : X → X → Type 0) (xs : List X) (i : �
 AllPairs-insert R xs i y within pairs below above j k d before inside =
     let longer = length-insert xs i y within in
     elim (cases_lt k i) [
-      | inl k_front ↦ related R _ _ _ _ (get_or-insert_below xs i y d j (omega arith) within) (get_or-insert_below xs i y d k k_front within) (pairs j k d before (omega arith))
+      | inl k_front ↦ related R _ _ _ _ (get_or-insert_below xs i y d j (omega arith) within)
+          (get_or-insert_below xs i y d k k_front within) (pairs j k d before (omega arith))
       | inr k_back ↦ elim (cases_lt j i) [
         | inl j_front ↦ elim (cases_lt i k) [
-          | inl k_behind ↦ related R _ _ _ _ (get_or-insert_below xs i y d j j_front within) (get_or-insert_behind xs i y d k k_behind within) (pairs j (k - 1) d (omega arith) (omega arith))
+          | inl k_behind ↦ related R _ _ _ _ (get_or-insert_below xs i y d j j_front within)
+              (get_or-insert_behind xs i y d k k_behind within) (pairs j (k - 1) d (omega arith) (omega arith))
           | inr k_at ↦
               let same : k ≡ i = omega arith in
-              related R _ _ _ _ (get_or-insert_below xs i y d j j_front within) (ap (λ n. get_or (insert xs i y) n d) same ∙ get_or-insert_at xs i y d within) (below j d j_front)
+              related R _ _ _ _ (get_or-insert_below xs i y d j j_front within)
+              (ap (λ n. get_or (insert xs i y) n d) same ∙ get_or-insert_at xs i y d within) (below j d j_front)
         ]
         | inr j_back ↦ elim (cases_lt i j) [
-          | inl j_behind ↦ related R _ _ _ _ (get_or-insert_behind xs i y d j j_behind within) (get_or-insert_behind xs i y d k (omega arith) within) (pairs (j - 1) (k - 1) d (omega arith) (omega arith))
+          | inl j_behind ↦ related R _ _ _ _ (get_or-insert_behind xs i y d j j_behind within)
+              (get_or-insert_behind xs i y d k (omega arith) within)
+              (pairs (j - 1) (k - 1) d (omega arith) (omega arith))
           | inr j_at ↦
               let same : j ≡ i = omega arith in
-              related R _ _ _ _ (ap (λ n. get_or (insert xs i y) n d) same ∙ get_or-insert_at xs i y d within) (get_or-insert_behind xs i y d k (omega arith) within) (above (k - 1) d (omega arith) (omega arith))
+              related R _ _ _ _ (ap (λ n. get_or (insert xs i y) n d) same ∙ get_or-insert_at xs i y d within)
+              (get_or-insert_behind xs i y d k (omega arith) within) (above (k - 1) d (omega arith) (omega arith))
         ]
       ]
     ]
@@ -49,7 +56,8 @@ Contains-front x xs y = (
 )
 
 -- what a list with one more element contains
-pub Contains-insert : {X : Type 0} (xs : List X) (i : ℕ) (x y : X) → Contains (insert xs i x) y ↔ (Contains xs y ⊎ (y ≡ x))
+pub Contains-insert : {X : Type 0} (xs : List X) (i : ℕ) (x y : X)
+    → Contains (insert xs i x) y ↔ (Contains xs y ⊎ (y ≡ x))
 Contains-insert xs i x y =
     let moved = IsPermutation-insert xs i x in (
       λ there. (Contains-front x xs y).0 (Contains-permutation _ _ y (IsPermutation-sym _ _ moved) there),

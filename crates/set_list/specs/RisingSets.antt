@@ -33,7 +33,8 @@ first_below x xs up more = up 0 (omega arith)
 -- what stands after the first number is above it
 pub above_first : (x : ℕ) (xs : List ℕ) (y : ℕ) → IsStrictlyIncreasing (x ∷ xs) → Contains xs y → x < y
 above_first x xs y up there =
-    let above : x < get_or xs there.0 y = AllPairs-from_increasing (x ∷ xs) up 0 (suc there.0) y (omega arith) (omega (arith, there.1)) in
+    let above : x < get_or xs there.0 y =
+    AllPairs-from_increasing (x ∷ xs) up 0 (suc there.0) y (omega arith) (omega (arith, there.1)) in
     omega (arith, above, there.2)
 
 -- no number is below the first
@@ -49,7 +50,8 @@ behind_first x xs y above there =
     elim ((Contains-front x xs y).0 there) [ inl behind ↦ behind | inr first ↦ absurd (omega (arith, first)) ]
 
 -- a subset has fewer numbers or is the same set
-pub smaller_or_same : (s t : List ℕ) → IsStrictlyIncreasing s → IsStrictlyIncreasing t → IsSubset s t → (length s < length t) ⊎ (s ≡ t)
+pub smaller_or_same : (s t : List ℕ) → IsStrictlyIncreasing s → IsStrictlyIncreasing t → IsSubset s t
+    → (length s < length t) ⊎ (s ≡ t)
 smaller_or_same [] [] s_up t_up subset = inr refl
 smaller_or_same [] (b ∷ t) s_up t_up subset = inl (omega arith)
 smaller_or_same (a ∷ s) [] s_up t_up subset =
@@ -87,12 +89,14 @@ subset-short s t s_up t_up subset = elim (smaller_or_same s t s_up t_up subset) 
 ]
 
 -- and is the same set where it has no fewer
-pub subset-same : (s t : List ℕ) → IsStrictlyIncreasing s → IsStrictlyIncreasing t → IsSubset s t → length t ≤ length s → s ≡ t
+pub subset-same : (s t : List ℕ) → IsStrictlyIncreasing s → IsStrictlyIncreasing t → IsSubset s t → length t ≤ length s
+    → s ≡ t
 subset-same s t s_up t_up subset long = elim (smaller_or_same s t s_up t_up subset) [
   | inl fewer ↦ absurd (omega (arith, fewer, long))
   | inr same ↦ same
 ]
 
 -- sets that include each other are the same
-pub same_from_subsets : (s t : List ℕ) → IsStrictlyIncreasing s → IsStrictlyIncreasing t → IsSubset s t → IsSubset t s → s ≡ t
+pub same_from_subsets : (s t : List ℕ) → IsStrictlyIncreasing s → IsStrictlyIncreasing t → IsSubset s t → IsSubset t s
+    → s ≡ t
 same_from_subsets s t s_up t_up there back = subset-same s t s_up t_up there (subset-short t s t_up s_up back)

@@ -26,30 +26,38 @@ HitsBySet = (g : Geometry) (address : ℕ) (earlier : List ℕ) → ends_in_hit 
 abbrev pub HasNames : Type 0
 HasNames = (blocks : List ℕ) (block : ℕ) (fetches : List (Option ℕ)) → IsStrictlyIncreasing blocks
     → block < length blocks → ((local : ℕ) → Contains fetches (Some local) → local < length blocks)
-    → younger (named blocks block) (map (option_map (named blocks)) fetches) ≡ option_map (map (named blocks)) (younger block fetches)
+    → younger (named blocks block) (map (option_map (named blocks)) fetches)
+    ≡ option_map (map (named blocks)) (younger block fetches)
 
 -- only a node fetches
 fetch-inside : (view : View) (n local : ℕ) → IsView view → fetch_at view.fetches n ≡ Some local → n < length view.nodes
 fetch-inside view n local is fetched = ⊎_elim
     (λ (inside : n < length view.nodes). inside)
-    (λ (past : length view.nodes ≤ n). absurd (none-some local (sym (get_or_past view.fetches n None (omega (arith, is.one_each))) ∙ fetched)))
+    (λ (past : length view.nodes ≤ n). absurd (none-some local
+    (sym (get_or_past view.fetches n None (omega (arith, is.one_each))) ∙ fetched)))
     (cases_lt n (length view.nodes))
 
 -- the younger set of a block, by the block and by its local number
 younger-renamed : HasNames → (view : View) (local : ℕ) (earlier : List ℕ) → IsView view → local < length view.blocks
-    → map (block_in view.geometry view.set) (map (address_of view.nodes) earlier) ≡ map (option_map (named view.blocks)) (map (fetch_at view.fetches) earlier)
-    → is_small view.geometry.ways (younger (named view.blocks local) (map (block_in view.geometry view.set) (map (address_of view.nodes) earlier)))
+    → map (block_in view.geometry view.set) (map (address_of view.nodes) earlier)
+    ≡ map (option_map (named view.blocks)) (map (fetch_at view.fetches) earlier)
+    → is_small view.geometry.ways (younger (named view.blocks local)
+    (map (block_in view.geometry view.set) (map (address_of view.nodes) earlier)))
     ≡ is_small view.geometry.ways (younger_after view.fetches local earlier)
 younger-renamed renamed view local earlier is within same =
     ap (λ fetches. is_small view.geometry.ways (younger (named view.blocks local) fetches)) same
-    ∙ ap (is_small view.geometry.ways) (renamed view.blocks local (map (fetch_at view.fetches) earlier) is.blocks.rising within
+    ∙ ap (is_small view.geometry.ways) (renamed view.blocks local (map (fetch_at view.fetches) earlier) is.blocks.rising
+    within
     (λ other inside. fetched-within view earlier other is inside))
     ∙ is_small-renamed view.geometry.ways (named view.blocks) (younger_after view.fetches local earlier)
 
 -- a path hits exactly where the younger set of its last block, in local numbers, has fewer than the ways
-pub view-hits : HitsBySet → HasNames → ((nodes : List Node) (n m : ℕ) → IsGraph nodes → IsSuccessor (graph_step nodes) n m → m < length nodes)
-    → (view : View) (n local : ℕ) (earlier : List ℕ) → IsView view → IsPath (graph_step view.nodes) 0 (n ∷ earlier) → fetch_at view.fetches n ≡ Some local
-    → ends_in_hit view.geometry (map (address_of view.nodes) (n ∷ earlier)) ≡ is_small view.geometry.ways (younger_after view.fetches local earlier)
+pub view-hits : HitsBySet → HasNames
+    → ((nodes : List Node) (n m : ℕ) → IsGraph nodes → IsSuccessor (graph_step nodes) n m → m < length nodes)
+    → (view : View) (n local : ℕ) (earlier : List ℕ) → IsView view → IsPath (graph_step view.nodes) 0 (n ∷ earlier)
+    → fetch_at view.fetches n ≡ Some local
+    → ends_in_hit view.geometry (map (address_of view.nodes) (n ∷ earlier))
+    ≡ is_small view.geometry.ways (younger_after view.fetches local earlier)
 view-hits hits renamed inside view n local earlier is path fetched =
     let g = view.geometry in
     let address : ℕ = address_of view.nodes n in

@@ -17,20 +17,25 @@ lies-further : (address : ℕ) (addresses : List ℕ) (g : Geometry) (set block 
 lies-further address addresses g set block (other, has, is) = (other, has-later address other addresses has, is)
 
 -- a listed block is the first one, or a later one
-listed-cases : (o : Option ℕ) (address : ℕ) (addresses : List ℕ) (g : Geometry) (set block : ℕ) (rest : List ℕ) → block_in g set address ≡ o
-    → (Contains rest block → LieIn addresses g set block) → Contains (cons_option o rest) block → LieIn (address ∷ addresses) g set block
-listed-cases None address addresses g set block rest is later listed = lies-further address addresses g set block (later listed)
-listed-cases (Some first) address addresses g set block rest is later listed = elim (has-cases first block rest listed) [
-  | inl same ↦ (address, has-first address addresses, is ∙ ap Some (sym same))
-  | inr behind ↦ lies-further address addresses g set block (later behind)
-]
+listed-cases : (o : Option ℕ) (address : ℕ) (addresses : List ℕ) (g : Geometry) (set block : ℕ) (rest : List ℕ)
+    → block_in g set address ≡ o
+    → (Contains rest block → LieIn addresses g set block) → Contains (cons_option o rest) block
+    → LieIn (address ∷ addresses) g set block
+listed-cases None address addresses g set block rest is later listed =
+    lies-further address addresses g set block (later listed)
+listed-cases (Some first) address addresses g set block rest is later listed =
+    elim (has-cases first block rest listed) [
+      | inl same ↦ (address, has-first address addresses, is ∙ ap Some (sym same))
+      | inr behind ↦ lies-further address addresses g set block (later behind)
+    ]
 
 -- each listed block is one that a node fetches
 pub listed-fetched : (nodes : List Node) (g : Geometry) (set block : ℕ) → Contains (blocks_of nodes g set) block
     → LieIn (addresses_of nodes) g set block
 listed-fetched [] g set block listed = absurd (has-none block listed)
 listed-fetched (node ∷ nodes) g set block listed =
-    listed-cases (block_in g set node.at) node.at (addresses_of nodes) g set block (blocks_of nodes g set) refl (listed-fetched nodes g set block) listed
+    listed-cases (block_in g set node.at) node.at (addresses_of nodes) g set block (blocks_of nodes g set) refl
+    (listed-fetched nodes g set block) listed
 
 -- one fetch more before the others
 listed-further : (o : Option ℕ) (rest : List ℕ) (block : ℕ) → Contains rest block → Contains (cons_option o rest) block
@@ -41,13 +46,15 @@ listed-further (Some first) rest block listed = has-later first block rest liste
 pub fetched-listed : (nodes : List Node) (g : Geometry) (set block : ℕ) → LieIn (addresses_of nodes) g set block
     → Contains (blocks_of nodes g set) block
 fetched-listed [] g set block (address, has, is) = absurd (has-none address has)
-fetched-listed (node ∷ nodes) g set block (address, has, is) = elim (has-cases node.at address (addresses_of nodes) has) [
-  | inl same ↦
-      let P : Option ℕ → Type 0 = λ o. Contains (cons_option o (blocks_of nodes g set)) block in
-      let here : block_in g set node.at ≡ Some block = ap (block_in g set) (sym same) ∙ is in
-      subst P (sym here) (has-first block (blocks_of nodes g set))
-  | inr later ↦ listed-further (block_in g set node.at) (blocks_of nodes g set) block (fetched-listed nodes g set block (address, later, is))
-]
+fetched-listed (node ∷ nodes) g set block (address, has, is) =
+    elim (has-cases node.at address (addresses_of nodes) has) [
+      | inl same ↦
+          let P : Option ℕ → Type 0 = λ o. Contains (cons_option o (blocks_of nodes g set)) block in
+          let here : block_in g set node.at ≡ Some block = ap (block_in g set) (sym same) ∙ is in
+          subst P (sym here) (has-first block (blocks_of nodes g set))
+      | inr later ↦ listed-further (block_in g set node.at) (blocks_of nodes g set) block
+          (fetched-listed nodes g set block (address, later, is))
+    ]
 
 -- the address of a node is one of them
 pub has-address : (nodes : List Node) (n : ℕ) → n < length nodes → Contains (addresses_of nodes) (address_of nodes n)

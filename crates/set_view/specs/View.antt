@@ -27,9 +27,11 @@ pub record IsView (view : View) : Type 0 where
   pub one_each : length view.fetches ≡ length view.nodes
   pub within : (n local : ℕ) → fetch_at view.fetches n ≡ Some local → local < length view.blocks
   pub fetches : (n : ℕ) → n < length view.nodes
-      → option_map (named view.blocks) (fetch_at view.fetches n) ≡ block_in view.geometry view.set (address_of view.nodes n)
+      → option_map (named view.blocks) (fetch_at view.fetches n)
+      ≡ block_in view.geometry view.set (address_of view.nodes n)
 
 -- why there is no view of the set: it has more fetched blocks than the limit, and this many; or out of memory
 abbrev pub IsFault : List Node → Geometry → ℕ → ViewFault → Type 0
-IsFault nodes g set (TooManyBlocks which count) = (which ≡ set) × HaveBlocks (addresses_of nodes) g set count × (block_limit < count)
+IsFault nodes g set (TooManyBlocks which count) =
+    (which ≡ set) × HaveBlocks (addresses_of nodes) g set count × (block_limit < count)
 IsFault nodes g set OutOfMemory = Unit {0}

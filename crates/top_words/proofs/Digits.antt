@@ -16,6 +16,7 @@ own : IsNumeralModel (λ text. all_ascii_digits text ≡ true) (digits_value 10)
 own = numerals_by_value _ tells_all_ascii_digits
 
 -- 1 to 10 digits are read as their value, since it is below 2 ^ 64
-pub parse_short : {E : Type 0} (text : List ℕ) (r : Result ℕ E) → ParsesUnsigned 64 10 text r → 1 ≤ length text → length text ≤ 10 → all_ascii_digits text ≡ true → r ≡ Ok (digits_value 10 text)
+pub parse_short : {E : Type 0} (text : List ℕ) (r : Result ℕ E) → ParsesUnsigned 64 10 text r → 1 ≤ length text
+    → length text ≤ 10 → all_ascii_digits text ≡ true → r ≡ Ok (digits_value 10 text)
 parse_short text r parsed some short digits =
     parse_gives own 64 text r parsed digits (omega arith) (omega (arith, digits_value_short own text 10 digits short))

@@ -37,18 +37,22 @@ gives digits (Err e) numeral below parsed same =
     absurd (parsed (subst P (sym same) (numeral, below)))
 
 -- 1 to 8 digits are read as their value, since it is below 2 ^ 32
-pub parse_hex : {E : Type 0} (text : List ℕ) (r : Result ℕ E) → ParsesUnsigned 32 16 text r → 1 ≤ length text → length text ≤ 8
+pub parse_hex : {E : Type 0} (text : List ℕ) (r : Result ℕ E) → ParsesUnsigned 32 16 text r → 1 ≤ length text
+    → length text ≤ 8
     → list_all is_ascii_hexdigit text ≡ true → r ≡ Ok (digits_value 16 text)
 parse_hex text r parsed some short hex =
     let digits = all_hex text hex in
-    gives text r (omega (arith), digits) (omega (arith, digits_value-lt 16 text digits, power (length text) short)) parsed
+    gives text r (omega (arith), digits) (omega (arith, digits_value-lt 16 text digits, power (length text) short))
+    parsed
     (without_leading_plus_none text (no_plus text some hex))
 
 -- the digits after 0x are what an address is read from
-pub address_is : (text digits : List ℕ) → text ≡ 48 ∷ 120 ∷ digits → is_hexadecimal digits ≡ true → address_of text ≡ Some (digits_value 16 digits)
+pub address_is : (text digits : List ℕ) → text ≡ 48 ∷ 120 ∷ digits → is_hexadecimal digits ≡ true
+    → address_of text ≡ Some (digits_value 16 digits)
 address_is text digits is hex = rw is (rw hex refl)
 
 -- as the tests of the length and of the digits tell
-pub hexadecimal_is : (digits : List ℕ) → 1 ≤ length digits → length digits ≤ 8 → list_all is_ascii_hexdigit digits ≡ true
+pub hexadecimal_is : (digits : List ℕ) → 1 ≤ length digits → length digits ≤ 8
+    → list_all is_ascii_hexdigit digits ≡ true
     → is_hexadecimal digits ≡ true
 hexadecimal_is digits some short hex = rw hex (grind (arith, nat_tests))

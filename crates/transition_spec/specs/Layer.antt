@@ -14,14 +14,17 @@ pub record IsInLayer {C F : Type 0} (step : C → Result (List C) F) (start : C)
   pub no_sooner : (m : ℕ) → m < n → IsReachedIn step start m c → ⊥
 
 -- the list has exactly the states of layer n, in order
-pub record IsLayer {C F : Type 0} (step : C → Result (List C) F) (start : C) (order : C → C → Ordering) (n : ℕ) (layer : List C) : Type 0 where
+pub record IsLayer {C F : Type 0} (step : C → Result (List C) F) (start : C) (order : C → C → Ordering) (n : ℕ)
+    (layer : List C) : Type 0 where
   pub sorted : IsStrictlySortedBy order layer
   pub members : (c : C) → Contains layer c ↔ IsInLayer step start n c
 
 -- the lists are the layers from n on, one after another
-abbrev pub AreLayersFrom : {C F : Type 0} → (C → Result (List C) F) → C → (C → C → Ordering) → ℕ → List (List C) → Type 0
+abbrev pub AreLayersFrom : {C F : Type 0} → (C → Result (List C) F) → C → (C → C → Ordering) → ℕ → List (List C)
+    → Type 0
 AreLayersFrom step start order n [] = Unit {0}
-AreLayersFrom step start order n (layer ∷ layers) = IsLayer step start order n layer × AreLayersFrom step start order (n + 1) layers
+AreLayersFrom step start order n (layer ∷ layers) =
+    IsLayer step start order n layer × AreLayersFrom step start order (n + 1) layers
 
 -- the states of all layers, one layer after another
 abbrev pub all_of : {C : Type 0} → List (List C) → List C

@@ -14,7 +14,8 @@ IsPath step start (d ∷ c ∷ earlier) = IsSuccessor step c d × IsPath step st
 
 -- the letter of the move to d from a state with these successors: n to the first of two, t to the second, else none
 abbrev pub IsLetter : {C F : Type 0} → Result (List C) F → C → List ℕ → Type 0
-IsLetter (Ok (first ∷ second ∷ [])) d letter = ((d ≡ first) × (letter ≡ codes "n")) ⊎ ((d ≡ second) × (letter ≡ codes "t"))
+IsLetter (Ok (first ∷ second ∷ [])) d letter =
+    ((d ≡ first) × (letter ≡ codes "n")) ⊎ ((d ≡ second) × (letter ≡ codes "t"))
 IsLetter (Ok []) d letter = letter ≡ []
 IsLetter (Ok (first ∷ [])) d letter = letter ≡ []
 IsLetter (Ok (first ∷ second ∷ third ∷ others)) d letter = letter ≡ []
@@ -25,4 +26,5 @@ abbrev pub HasChoices : {C F : Type 0} → (C → Result (List C) F) → List C 
 HasChoices step [] choices = choices ≡ []
 HasChoices step (c ∷ []) choices = choices ≡ []
 HasChoices step (d ∷ c ∷ earlier) choices =
-    (before : List ℕ) × (letter : List ℕ) × HasChoices step (c ∷ earlier) before × IsLetter (step c) d letter × (choices ≡ before ++ letter)
+    (before : List ℕ) × (letter : List ℕ) × HasChoices step (c ∷ earlier) before × IsLetter (step c) d letter
+    × (choices ≡ before ++ letter)

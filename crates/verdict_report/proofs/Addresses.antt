@@ -16,7 +16,8 @@ use Rattle.verdict_report.specs.Reading.{guarded, spelled, address_of, address_a
 use Rattle.verdict_report.proofs.Steps.{bind_some, guarded_some, same_some}
 
 -- an address of ten bytes, by the bytes that its digits spell
-pub address_is : (front bytes : List ℕ) (p : ℕ) (test : Bool) → decode_sized (take 8 (drop 2 front)) 4 ≡ Ok bytes → from_be_bytes w32 bytes ≡ p
+pub address_is : (front bytes : List ℕ) (p : ℕ) (test : Bool) → decode_sized (take 8 (drop 2 front)) 4 ≡ Ok bytes
+    → from_be_bytes w32 bytes ≡ p
     → test ≡ bytes_eq (address_text p) front → address_of front ≡ guarded test p
 unfolding address_of
 address_is front bytes p test h is tested =
@@ -39,25 +40,31 @@ address_of_takes front p h =
     let g = guarded_some (bytes_eq (address_text (from_be_bytes w32 b.0)) front) (from_be_bytes w32 b.0) p b.2 in
     let r = spelled_some (decode_sized (take 8 (drop 2 front)) 4) b.0 b.1 in
     let len = decode_sized-ok (take 8 (drop 2 front)) 4 b.0 r in
-    let fits = (decode_of-ok (take 8 (drop 2 front)) b.0 (sym (decode_sized-twice (take 8 (drop 2 front)) 4 len) ∙ r)).3 in
-    let is : address_text (from_be_bytes w32 b.0) ≡ front = (bytes_eq-Decides (address_text (from_be_bytes w32 b.0)) front).0 g.0 in
+    let fits = (decode_of-ok (take 8 (drop 2 front)) b.0 (sym (decode_sized-twice (take 8 (drop 2 front)) 4 len)
+    ∙ r)).3 in
+    let is : address_text (from_be_bytes w32 b.0) ≡ front =
+    (bytes_eq-Decides (address_text (from_be_bytes w32 b.0)) front).0 g.0 in
     (ap address_text (sym g.1) ∙ is, rw (← g.1) (from_be_bytes-small b.0 fits))
 
 -- the digits of an address are those of its bytes
 digits_of_address : (p : ℕ) → take 8 (drop 2 (address_text p)) ≡ encode_lower (to_be_bytes w32 p)
 unfolding address_text
-digits_of_address p = take_all 8 (encode_lower (to_be_bytes w32 p)) (omega (arith, length-encode_with lower_digits (to_be_bytes w32 p)))
+digits_of_address p = take_all 8 (encode_lower (to_be_bytes w32 p))
+    (omega (arith, length-encode_with lower_digits (to_be_bytes w32 p)))
 
 -- the text of an address has this address
 pub address_of_again : (p : ℕ) → p < 2 ^ 32 → address_of (address_text p) ≡ Some p
 address_of_again p fits =
     let bytes = to_be_bytes w32 p in
     let decoded : decode_sized (take 8 (drop 2 (address_text p))) 4 ≡ Ok bytes =
-    ap (λ (digits : List ℕ). decode_sized digits 4) (digits_of_address p) ∙ decode_sized-encode_lower bytes 4 refl (IsBytes-to_be_bytes p) in
-    address_is (address_text p) bytes p true decoded (from_be_bytes-to_be_bytes_4 p fits) (sym ((bytes_eq-Decides (address_text p) (address_text p)).1 refl))
+    ap (λ (digits : List ℕ). decode_sized digits 4) (digits_of_address p)
+    ∙ decode_sized-encode_lower bytes 4 refl (IsBytes-to_be_bytes p) in
+    address_is (address_text p) bytes p true decoded (from_be_bytes-to_be_bytes_4 p fits)
+    (sym ((bytes_eq-Decides (address_text p) (address_text p)).1 refl))
 
 -- a text that has an address begins with the text of this address
-pub address_takes : (text : List ℕ) (read : ℕ × List ℕ) → address_at text ≡ Some read → (text ≡ address_text read.0 ++ read.1) × (read.0 < 2 ^ 32)
+pub address_takes : (text : List ℕ) (read : ℕ × List ℕ) → address_at text ≡ Some read
+    → (text ≡ address_text read.0 ++ read.1) × (read.0 < 2 ^ 32)
 unfolding address_at
 address_takes text read h =
     let a = bind_some (guarded (nat_le 10 (length text)) (take 10 text)) _ read h in
@@ -72,5 +79,7 @@ pub address_again : (p : ℕ) (behind : List ℕ) → p < 2 ^ 32 → address_at 
 unfolding address_at
 address_again p behind fits =
     let ten = length-address_text p in
-    let long : nat_le 10 (length (address_text p ++ behind)) ≡ true = le-leb 10 (length (address_text p ++ behind)) (omega (arith, length-append (address_text p) behind)) in
-    rw (long, take_at (address_text p) behind 10 ten, drop_at (address_text p) behind 10 ten, address_of_again p fits) refl
+    let long : nat_le 10 (length (address_text p ++ behind)) ≡ true =
+    le-leb 10 (length (address_text p ++ behind)) (omega (arith, length-append (address_text p) behind)) in
+    rw (long, take_at (address_text p) behind 10 ten, drop_at (address_text p) behind 10 ten, address_of_again p fits)
+    refl

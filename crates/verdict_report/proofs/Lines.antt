@@ -28,7 +28,8 @@ pub record IsLine (text : List ℕ) (read : Line × List ℕ) : Type 0 where
 
 -- the fields of a range, one after another
 abbrev range_parts : ℕ → ℕ → List ℕ → List ℕ
-range_parts first last behind = address_text first ++ (codes "-" ++ (address_text last ++ (codes " unreachable\n" ++ behind)))
+range_parts first last behind = address_text first
+    ++ (codes "-" ++ (address_text last ++ (codes " unreachable\n" ++ behind)))
 
 regroup_range : (first last : ℕ) (behind : List ℕ) → range_text first last ++ behind ≡ range_parts first last behind
 regroup_range first last behind = simp append_assoc
@@ -46,7 +47,11 @@ range_takes text read h =
     let l = address_takes dash.0 last.0 last.1 in
     let e = after_takes (codes " unreachable\n") last.0.1 end.0 end.1 in
     let parts = onward (address_text first.0.0) f.0 (onward (codes "-") d (onward (address_text last.0.0) l.0 e)) in
-    rw (← g.1) (record { is = parts ∙ sym (regroup_range first.0.0 last.0.0 end.0); has_text = record { fits = (f.1, l.1); valid = g.0 } })
+    rw (← g.1) (record {
+      is = parts ∙ sym (regroup_range first.0.0 last.0.0 end.0);
+      has_text = record
+          { fits = (f.1, l.1); valid = g.0 };
+    })
 
 range_again : (first last : ℕ) (behind : List ℕ) → first < 2 ^ 32 → last < 2 ^ 32 → nat_le first last ≡ true
     → range_at (range_text first last ++ behind) ≡ Some (Unreachable first last, behind)
@@ -61,12 +66,14 @@ range_again first last behind fits more valid =
 -- ---- lines with a verdict
 
 -- a line with a verdict is its subject and what is said of it
-line_text-line_with : (subject : Subject) (verdict : Verdict) → line_text (line_with subject verdict) ≡ subject_text subject ++ said_text verdict
+line_text-line_with : (subject : Subject) (verdict : Verdict)
+    → line_text (line_with subject verdict) ≡ subject_text subject ++ said_text verdict
 line_text-line_with (Address at) verdict = refl
 line_text-line_with (Configuration node at depth back) verdict = refl
 
 -- and has a text where both are right
-HasText-line_with : (subject : Subject) (verdict : Verdict) → FitsSubject subject → is_valid_subject subject ≡ true → FitsVerdict verdict → is_valid_verdict verdict ≡ true
+HasText-line_with : (subject : Subject) (verdict : Verdict) → FitsSubject subject → is_valid_subject subject ≡ true
+    → FitsVerdict verdict → is_valid_verdict verdict ≡ true
     → HasText (line_with subject verdict)
 HasText-line_with (Address at) verdict fits valid small right = record { fits = (fits, small); valid = right }
 HasText-line_with (Configuration node at depth back) verdict fits valid small right =
@@ -82,15 +89,18 @@ told_takes text read h =
     let v = said_takes subject.0.1 said.0 said.1 in
     let written = line_text-line_with subject.0.0 said.0.0 in
     let whole : text ≡ line_text (line_with subject.0.0 said.0.0) ++ said.0.1 =
-    onward (subject_text subject.0.0) s.is v.is ∙ sym (append_assoc (subject_text subject.0.0) (said_text said.0.0) said.0.1) ∙ ap (λ (t : List ℕ). t ++ said.0.1) (sym written) in
+    onward (subject_text subject.0.0) s.is v.is ∙ sym (append_assoc (subject_text subject.0.0) (said_text said.0.0)
+    said.0.1) ∙ ap (λ (t : List ℕ). t ++ said.0.1) (sym written) in
     rw (← e) (record { is = whole; has_text = HasText-line_with subject.0.0 said.0.0 s.fits s.valid v.fits v.valid })
 
-told_again : (subject : Subject) (verdict : Verdict) (behind : List ℕ) → FitsSubject subject → is_valid_subject subject ≡ true → FitsVerdict verdict → is_valid_verdict verdict ≡ true
+told_again : (subject : Subject) (verdict : Verdict) (behind : List ℕ) → FitsSubject subject
+    → is_valid_subject subject ≡ true → FitsVerdict verdict → is_valid_verdict verdict ≡ true
     → told_at ((subject_text subject ++ said_text verdict) ++ behind) ≡ Some (line_with subject verdict, behind)
 unfolding told_at
 told_again subject verdict behind fits valid small right =
     ap told_at (append_assoc (subject_text subject) (said_text verdict) behind)
-    ∙ rw (subject_again subject (said_text verdict ++ behind) fits valid) (rw (said_again verdict behind small right) refl)
+    ∙ rw (subject_again subject (said_text verdict ++ behind) fits valid)
+    (rw (said_again verdict behind small right) refl)
 
 -- ---- all lines
 
@@ -102,7 +112,8 @@ line_takes text read h = elim (or_some (range_at text) (told_at text) read h) [
 ]
 
 -- a line by address is no range, for after its address stands no dash
-no_range_at : (at : ℕ) (verdict : Verdict) (behind : List ℕ) → at < 2 ^ 32 → range_at ((address_text at ++ said_text verdict) ++ behind) ≡ None
+no_range_at : (at : ℕ) (verdict : Verdict) (behind : List ℕ) → at < 2 ^ 32
+    → range_at ((address_text at ++ said_text verdict) ++ behind) ≡ None
 unfolding range_at after
 no_range_at at verdict behind fits =
     ap range_at (append_assoc (address_text at) (said_text verdict) behind)
@@ -114,18 +125,21 @@ unfolding address_text
 no_address text = nothing (address_at (35 ∷ text)) (λ read h. cc (address_takes (35 ∷ text) read h).0)
 
 -- a configuration is no range
-no_range_context : (node at depth : ℕ) (back : Option ℕ) (verdict : Verdict) (behind : List ℕ) → range_at ((context_text node at depth back ++ said_text verdict) ++ behind) ≡ None
+no_range_context : (node at depth : ℕ) (back : Option ℕ) (verdict : Verdict) (behind : List ℕ)
+    → range_at ((context_text node at depth back ++ said_text verdict) ++ behind) ≡ None
 unfolding range_at
 no_range_context node at depth back verdict behind = rw no_address refl
 
-pub line_again : (line : Line) (behind : List ℕ) → HasText line → line_at (line_text line ++ behind) ≡ Some (line, behind)
+pub line_again : (line : Line) (behind : List ℕ) → HasText line
+    → line_at (line_text line ++ behind) ≡ Some (line, behind)
 unfolding line_at
 line_again (At at verdict) behind h =
     rw (no_range_at at verdict behind h.fits.0) (told_again (Address at) verdict behind h.fits.0 refl h.fits.1 h.valid)
 line_again (Context node at depth back verdict) behind h =
     let parts = and_parts (has_back_as_deep depth back) (is_valid_verdict verdict) h.valid in
     rw (no_range_context node at depth back verdict behind)
-    (told_again (Configuration node at depth back) verdict behind (h.fits.0, h.fits.1, h.fits.2, h.fits.3) parts.0 h.fits.4 parts.1)
+    (told_again (Configuration node at depth back) verdict behind (h.fits.0, h.fits.1, h.fits.2, h.fits.3) parts.0
+    h.fits.4 parts.1)
 line_again (Unreachable first last) behind h = rw (range_again first last behind h.fits.0 h.fits.1 h.valid) refl
 
 -- a text that has a line is the text of this line
@@ -136,18 +150,21 @@ line_of_takes text line h =
     let g = guarded_some (eqb (length read.0.1) 0) read.0.0 line read.2 in
     let l = line_takes text read.0 read.1 in
     let end : read.0.1 ≡ [] = nil_from_length read.0.1 (eqb-true (length read.0.1) 0 g.0) in
-    let whole : line_text read.0.0 ≡ text = sym (l.is ∙ ap (λ (t : List ℕ). line_text read.0.0 ++ t) end ∙ append-nil (line_text read.0.0)) in
+    let whole : line_text read.0.0 ≡ text =
+    sym (l.is ∙ ap (λ (t : List ℕ). line_text read.0.0 ++ t) end ∙ append-nil (line_text read.0.0)) in
     rw (← g.1) (record { has_text = l.has_text; is = whole })
 
 -- the text of a line has this line
 line_of_again : (line : Line) → HasText line → line_of (line_text line) ≡ Some line
 unfolding line_of
 line_of_again line h =
-    let read : line_at (line_text line) ≡ Some (line, []) = ap line_at (sym (append-nil (line_text line))) ∙ line_again line [] h in
+    let read : line_at (line_text line) ≡ Some (line, []) =
+    ap line_at (sym (append-nil (line_text line))) ∙ line_again line [] h in
     rw read refl
 
 -- what reading gives is exactly the line that has the text
-pub line_of_is : (text : List ℕ) (found : Option Line) → found ≡ line_of text → (line : Line) → (found ≡ Some line) ↔ IsTextOf line text
+pub line_of_is : (text : List ℕ) (found : Option Line) → found ≡ line_of text → (line : Line)
+    → (found ≡ Some line) ↔ IsTextOf line text
 line_of_is text found is line = (
   λ some. line_of_takes text line (sym is ∙ some),
   λ h. is ∙ ap line_of (sym h.is) ∙ line_of_again line h.has_text,
@@ -156,16 +173,20 @@ line_of_is text found is line = (
 -- ---- laws
 
 -- of two lines where one's text begins with the other's, the longer text is read as both
-same_read : (line other : Line) (more : List ℕ) → HasText line → HasText other → line_text line ≡ line_text other ++ more
+same_read : (line other : Line) (more : List ℕ) → HasText line → HasText other
+    → line_text line ≡ line_text other ++ more
     → (line ≡ other) × (more ≡ [])
 same_read line other more h k is =
-    let whole : line_at (line_text line) ≡ Some (line, []) = ap line_at (sym (append-nil (line_text line))) ∙ line_again line [] h in
+    let whole : line_at (line_text line) ≡ Some (line, []) =
+    ap line_at (sym (append-nil (line_text line))) ∙ line_again line [] h in
     let front : line_at (line_text line) ≡ Some (other, more) = ap line_at is ∙ line_again other more k in
     let same = same_some (line, []) (other, more) (sym whole ∙ front) in
     (ap (λ (read : Line × List ℕ). read.0) same, ap (λ (read : Line × List ℕ). read.1) (sym same))
 
-pub one_line_of_text : (line other : Line) → HasText line → HasText other → line_text line ≡ line_text other → line ≡ other
+pub one_line_of_text : (line other : Line) → HasText line → HasText other → line_text line ≡ line_text other
+    → line ≡ other
 one_line_of_text line other h k is = (same_read line other [] h k (is ∙ sym (append-nil (line_text other)))).0
 
-pub no_prefix : (line other : Line) (more : List ℕ) → HasText line → HasText other → line_text line ≡ line_text other ++ more → more ≡ []
+pub no_prefix : (line other : Line) (more : List ℕ) → HasText line → HasText other
+    → line_text line ≡ line_text other ++ more → more ≡ []
 no_prefix line other more h k is = (same_read line other more h k is).1

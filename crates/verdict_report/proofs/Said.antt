@@ -41,14 +41,16 @@ unknown_takes text read h =
     let w = way_takes 32 first.0 hit.0 hit.1 in
     let s = after_takes (codes "miss ") hit.0.1 second.0 second.1 in
     let v = way_takes 10 second.0 miss.0 miss.1 in
-    let parts = onward (codes "unknown hit ") f (onward_past (way_text hit.0.0) 32 w.0 (onward (codes "miss ") s v.0)) in
+    let parts = onward (codes "unknown hit ") f (onward_past (way_text hit.0.0) 32 w.0
+    (onward (codes "miss ") s v.0)) in
     rw (← e) (record {
       is = parts ∙ sym (regroup_unknown hit.0.0 miss.0.0 miss.0.1);
       fits = (w.1, v.1);
       valid = both_true w.2 v.2;
     })
 
-unknown_again : (hit miss : Way) (behind : List ℕ) → FitsVerdict (Unknown hit miss) → is_valid_verdict (Unknown hit miss) ≡ true
+unknown_again : (hit miss : Way) (behind : List ℕ) → FitsVerdict (Unknown hit miss)
+    → is_valid_verdict (Unknown hit miss) ≡ true
     → unknown_at (ended_text (Unknown hit miss) ++ behind) ≡ Some (Unknown hit miss, behind)
 unfolding unknown_at
 unknown_again hit miss behind fits valid =
@@ -60,11 +62,16 @@ unknown_again hit miss behind fits valid =
     rw (after_again (codes "miss ") last) (rw (way_again 10 miss behind (omega arith) fits.1 parts.1) refl)))
 
 -- a verdict that is a word alone
-plain_takes : (verdict : Verdict) (text : List ℕ) (read : Verdict × List ℕ) → FitsVerdict verdict → is_valid_verdict verdict ≡ true
+plain_takes : (verdict : Verdict) (text : List ℕ) (read : Verdict × List ℕ) → FitsVerdict verdict
+    → is_valid_verdict verdict ≡ true
     → told verdict (after (ended_text verdict) text) ≡ Some read → IsSaid ended_text text read
 plain_takes verdict text read fits valid h =
     let behind = map_some (λ (l : List ℕ). (verdict, l)) (after (ended_text verdict) text) read h in
-    rw (← behind.2) (record { is = after_takes (ended_text verdict) text behind.0 behind.1; fits = fits; valid = valid })
+    rw (← behind.2) (record {
+      is = after_takes (ended_text verdict) text behind.0 behind.1;
+      fits = fits;
+      valid = valid;
+    })
 
 verdict_takes : (text : List ℕ) (read : Verdict × List ℕ) → verdict_at text ≡ Some read → IsSaid ended_text text read
 unfolding verdict_at
@@ -88,7 +95,12 @@ unfolding said_at
 said_takes text read h =
     let behind = bind_some (after (codes " ") text) _ read h in
     let v = verdict_takes behind.0 read behind.2 in
-    record { is = after_takes (codes " ") text behind.0 behind.1 ∙ ap (λ (l : List ℕ). codes " " ++ l) v.is; fits = v.fits; valid = v.valid }
+    record {
+      is = after_takes (codes " ") text behind.0 behind.1 ∙ ap (λ (l : List ℕ). codes " " ++ l) v.is;
+      fits =
+          v.fits;
+      valid = v.valid;
+    }
 
 pub said_again : (verdict : Verdict) (behind : List ℕ) → FitsVerdict verdict → is_valid_verdict verdict ≡ true
     → said_at (said_text verdict ++ behind) ≡ Some (verdict, behind)

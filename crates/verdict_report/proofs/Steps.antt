@@ -9,7 +9,8 @@ use Rattle.std.proofs.lemmas.Slice.Eq.{bytes_eq-Decides}
 use Rattle.verdict_report.specs.Reading.{◌>>=◌, guarded, after}
 
 -- the first step found something, and so did the second
-pub bind_some : {A B : Type 0} (read : Option A) (next : A → Option B) (y : B) → (read >>= next) ≡ Some y → (x : A) × (read ≡ Some x) × (next x ≡ Some y)
+pub bind_some : {A B : Type 0} (read : Option A) (next : A → Option B) (y : B) → (read >>= next) ≡ Some y
+    → (x : A) × (read ≡ Some x) × (next x ≡ Some y)
 bind_some (Some x) next y h = (x, refl, h)
 bind_some None next y h = absurd cc
 
@@ -19,12 +20,14 @@ guarded_some true x y h = (refl, cc)
 guarded_some false x y h = absurd cc
 
 -- there was a value to map
-pub map_some : {A B : Type 0} (f : A → B) (read : Option A) (y : B) → option_map f read ≡ Some y → (x : A) × (read ≡ Some x) × (f x ≡ y)
+pub map_some : {A B : Type 0} (f : A → B) (read : Option A) (y : B) → option_map f read ≡ Some y
+    → (x : A) × (read ≡ Some x) × (f x ≡ y)
 map_some f (Some x) y h = (x, refl, cc)
 map_some f None y h = absurd cc
 
 -- one of the two found it
-pub or_some : {A : Type 0} (first second : Option A) (y : A) → option_or first second ≡ Some y → (first ≡ Some y) ⊎ (second ≡ Some y)
+pub or_some : {A : Type 0} (first second : Option A) (y : A) → option_or first second ≡ Some y
+    → (first ≡ Some y) ⊎ (second ≡ Some y)
 or_some (Some x) second y h = inl h
 or_some None second y h = inr h
 
@@ -37,7 +40,8 @@ unfolding after
 after_takes front text behind h =
     let g = guarded_some (bytes_eq (take (length front) text) front) (drop (length front) text) behind h in
     let front-is : take (length front) text ≡ front = (bytes_eq-Decides (take (length front) text) front).0 g.0 in
-    rw (← g.1) (sym (take-append-drop (length front) text) ∙ ap (λ (l : List ℕ). l ++ drop (length front) text) front-is)
+    rw (← g.1) (sym (take-append-drop (length front) text) ∙ ap (λ (l : List ℕ). l ++ drop (length front) text)
+    front-is)
 
 -- what follows these bytes stands after them
 pub after_again : (front behind : List ℕ) → after front (front ++ behind) ≡ Some behind
@@ -51,15 +55,18 @@ pub onward : (front : List ℕ) {text a b : List ℕ} → text ≡ front ++ a �
 onward front is same = is ∙ ap (λ (rest : List ℕ). front ++ rest) same
 
 -- the same after the byte at which the field ends
-pub onward_past : (front : List ℕ) (end : ℕ) {text a b : List ℕ} → text ≡ front ++ (end ∷ a) → a ≡ b → text ≡ front ++ (end ∷ b)
+pub onward_past : (front : List ℕ) (end : ℕ) {text a b : List ℕ} → text ≡ front ++ (end ∷ a) → a ≡ b
+    → text ≡ front ++ (end ∷ b)
 onward_past front end is same = is ∙ ap (λ (rest : List ℕ). front ++ (end ∷ rest)) same
 
 -- what is said of the value of a result that has one, and of the error of one that hasn't
-pub given_ok : {A E : Type 0} (P : A → Type 0) (Q : E → Type 0) (r : Result A E) (x : A) → result_ok r ≡ Some x → MatchResult r P Q → P x
+pub given_ok : {A E : Type 0} (P : A → Type 0) (Q : E → Type 0) (r : Result A E) (x : A) → result_ok r ≡ Some x
+    → MatchResult r P Q → P x
 given_ok P Q (Ok y) x h m = subst P (same_some y x h) m
 given_ok P Q (Err e) x h m = absurd cc
 
-pub given_err : {A E : Type 0} (P : A → Type 0) (Q : E → Type 0) (r : Result A E) → result_ok r ≡ None → MatchResult r P Q → (e : E) × Q e
+pub given_err : {A E : Type 0} (P : A → Type 0) (Q : E → Type 0) (r : Result A E) → result_ok r ≡ None
+    → MatchResult r P Q → (e : E) × Q e
 given_err P Q (Ok y) h m = absurd cc
 given_err P Q (Err e) h m = (e, m)
 

@@ -16,7 +16,8 @@ use Rattle.verdict_report.proofs.Addresses.{address_takes, address_again}
 abbrev no_back : List ℕ → Option ℕ × List ℕ
 no_back behind = (None, behind)
 
-back_takes : (text : List ℕ) (read : Option ℕ × List ℕ) → back_at text ≡ Some read → (text ≡ back_text read.0 ++ read.1) × IfSome read.0 (λ p. p < 2 ^ 32)
+back_takes : (text : List ℕ) (read : Option ℕ × List ℕ) → back_at text ≡ Some read
+    → (text ≡ back_text read.0 ++ read.1) × IfSome read.0 (λ p. p < 2 ^ 32)
 unfolding back_at
 back_takes text read h = elim (or_some (option_map (λ behind. (None, behind)) (after (codes "none") text)) _ read h) [
   | inl none ↦
@@ -33,7 +34,8 @@ not_none : (p : ℕ) (behind : List ℕ) → after (codes "none") (address_text 
 unfolding after address_text
 not_none p behind = refl
 
-back_again : (back : Option ℕ) (behind : List ℕ) → IfSome back (λ p. p < 2 ^ 32) → back_at (back_text back ++ behind) ≡ Some (back, behind)
+back_again : (back : Option ℕ) (behind : List ℕ) → IfSome back (λ p. p < 2 ^ 32)
+    → back_at (back_text back ++ behind) ≡ Some (back, behind)
 unfolding back_at
 back_again None behind fits = rw (after_again (codes "none") behind) refl
 back_again (Some p) behind fits = rw (not_none p behind, address_again p behind fits) refl
@@ -61,7 +63,8 @@ place_takes text read h =
     let parts = onward (codes "#") f (onward_past (decimal node.0.0) 32 n.0 a.0) in
     rw (← e) (parts ∙ sym (regroup_place node.0.0 at.0.0 at.0.1), n.1, a.1)
 
-place_again : (node at : ℕ) (behind : List ℕ) → node < 2 ^ 32 → at < 2 ^ 32 → place_at (place_text node at ++ behind) ≡ Some ((node, at), behind)
+place_again : (node at : ℕ) (behind : List ℕ) → node < 2 ^ 32 → at < 2 ^ 32
+    → place_at (place_text node at ++ behind) ≡ Some ((node, at), behind)
 unfolding place_at
 place_again node at behind small fits =
     ap place_at (regroup_place node at behind)
@@ -70,9 +73,11 @@ place_again node at behind small fits =
 
 -- the fields of its open calls, one after another
 abbrev calls_parts : ℕ → Option ℕ → List ℕ → List ℕ
-calls_parts depth back behind = codes " depth " ++ (decimal depth ++ (32 ∷ (codes "back " ++ (back_text back ++ behind))))
+calls_parts depth back behind = codes " depth " ++ (decimal depth
+    ++ (32 ∷ (codes "back " ++ (back_text back ++ behind))))
 
-regroup_calls : (depth : ℕ) (back : Option ℕ) (behind : List ℕ) → open_text depth back ++ behind ≡ calls_parts depth back behind
+regroup_calls : (depth : ℕ) (back : Option ℕ) (behind : List ℕ)
+    → open_text depth back ++ behind ≡ calls_parts depth back behind
 regroup_calls depth back behind = simp append_assoc
 
 -- the text begins with these open calls
@@ -95,9 +100,16 @@ calls_takes text read h =
     let s = after_takes (codes "back ") depth.0.1 second.0 second.1 in
     let b = back_takes second.0 back.0 back.1 in
     let parts = onward (codes " depth ") f (onward_past (decimal depth.0.0) 32 d.0 (onward (codes "back ") s b.0)) in
-    rw (← g.1) (record { is = parts ∙ sym (regroup_calls depth.0.0 back.0.0 back.0.1); small = d.1; fits = b.1; valid = g.0 })
+    rw (← g.1) (record {
+      is = parts ∙ sym (regroup_calls depth.0.0 back.0.0 back.0.1);
+      small = d.1;
+      fits = b.1;
+      valid =
+          g.0;
+    })
 
-calls_again : (depth : ℕ) (back : Option ℕ) (behind : List ℕ) → depth < 2 ^ 32 → IfSome back (λ p. p < 2 ^ 32) → has_back_as_deep depth back ≡ true
+calls_again : (depth : ℕ) (back : Option ℕ) (behind : List ℕ) → depth < 2 ^ 32 → IfSome back (λ p. p < 2 ^ 32)
+    → has_back_as_deep depth back ≡ true
     → calls_at (open_text depth back ++ behind) ≡ Some ((depth, back), behind)
 unfolding calls_at
 calls_again depth back behind small fits valid =
@@ -114,7 +126,8 @@ subject_text (Configuration node at depth back) = context_text node at depth bac
 
 abbrev pub FitsSubject : Subject → Type 0
 FitsSubject (Address at) = at < 2 ^ 32
-FitsSubject (Configuration node at depth back) = (node < 2 ^ 32) × (at < 2 ^ 32) × (depth < 2 ^ 32) × IfSome back (λ p. p < 2 ^ 32)
+FitsSubject (Configuration node at depth back) =
+    (node < 2 ^ 32) × (at < 2 ^ 32) × (depth < 2 ^ 32) × IfSome back (λ p. p < 2 ^ 32)
 
 abbrev pub is_valid_subject : Subject → Bool
 is_valid_subject (Address at) = true
@@ -126,7 +139,8 @@ pub record IsSubject (text : List ℕ) (read : Subject × List ℕ) : Type 0 whe
   pub fits : FitsSubject read.0
   pub valid : is_valid_subject read.0 ≡ true
 
-configuration_takes : (text : List ℕ) (read : Subject × List ℕ) → configuration_at text ≡ Some read → IsSubject text read
+configuration_takes : (text : List ℕ) (read : Subject × List ℕ) → configuration_at text ≡ Some read
+    → IsSubject text read
 unfolding configuration_at
 configuration_takes text read h =
     let place = bind_some (place_at text) _ read h in
@@ -165,4 +179,5 @@ subject_again (Address at) behind fits valid = rw (no_configuration at behind, a
 subject_again (Configuration node at depth back) behind fits valid =
     let regrouped = append_assoc (place_text node at) (open_text depth back) behind in
     ap subject_at regrouped
-    ∙ rw (place_again node at (open_text depth back ++ behind) fits.0 fits.1) (rw (calls_again depth back behind fits.2 fits.3 valid) refl)
+    ∙ rw (place_again node at (open_text depth back ++ behind) fits.0 fits.1)
+    (rw (calls_again depth back behind fits.2 fits.3 valid) refl)

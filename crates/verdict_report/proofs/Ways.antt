@@ -31,9 +31,11 @@ digits_free end (byte ∷ digits) low h =
     rw (digit_free end byte low parts.0, digits_free end digits low parts.1) refl
 
 decimal_free : (end n : ℕ) → end < 45 → n < 2 ^ 64 → is_free end (decimal n) ≡ true
-decimal_free end n low fits = digits_free end (decimal n) low (digits_decimal (numerals_by_value _ tells_all_ascii_digits) n fits)
+decimal_free end n low fits = digits_free end (decimal n) low
+    (digits_decimal (numerals_by_value _ tells_all_ascii_digits) n fits)
 
-pub number_at_takes : (text : List ℕ) (read : ℕ × List ℕ) → number_at text ≡ Some read → (text ≡ decimal read.0 ++ (32 ∷ read.1)) × (read.0 < 2 ^ 64)
+pub number_at_takes : (text : List ℕ) (read : ℕ × List ℕ) → number_at text ≡ Some read
+    → (text ≡ decimal read.0 ++ (32 ∷ read.1)) × (read.0 < 2 ^ 64)
 unfolding number_at
 number_at_takes text read h =
     let word = bind_some (word_at 32 text) _ read h in
@@ -46,9 +48,11 @@ number_at_takes text read h =
 pub number_at_again : (n : ℕ) (behind : List ℕ) → n < 2 ^ 64 → number_at (decimal n ++ (32 ∷ behind)) ≡ Some (n, behind)
 unfolding number_at
 number_at_again n behind fits =
-    rw (word_again 32 (decimal n) behind (decimal_free 32 n (omega arith) fits), number_some (decimal n) n fits refl) refl
+    rw (word_again 32 (decimal n) behind (decimal_free 32 n (omega arith) fits), number_some (decimal n) n fits refl)
+    refl
 
-pub small_takes : (text : List ℕ) (read : ℕ × List ℕ) → small_at text ≡ Some read → (text ≡ decimal read.0 ++ (32 ∷ read.1)) × (read.0 < 2 ^ 32)
+pub small_takes : (text : List ℕ) (read : ℕ × List ℕ) → small_at text ≡ Some read
+    → (text ≡ decimal read.0 ++ (32 ∷ read.1)) × (read.0 < 2 ^ 32)
 unfolding small_at
 small_takes text read h =
     let n = bind_some (number_at text) _ read h in
@@ -74,11 +78,13 @@ letters_free end (letter ∷ letters) low h =
     let parts = and_parts (is_letter letter) (list_all is_letter letters) h in
     rw (letter_free end letter low parts.0, letters_free end letters low parts.1) refl
 
-choices_free : (end : ℕ) (choices : List ℕ) → end < 45 → list_all is_letter choices ≡ true → is_free end (choices_text choices) ≡ true
+choices_free : (end : ℕ) (choices : List ℕ) → end < 45 → list_all is_letter choices ≡ true
+    → is_free end (choices_text choices) ≡ true
 choices_free end [] low h = grind arith
 choices_free end (letter ∷ letters) low h = letters_free end (letter ∷ letters) low h
 
-choices_takes : (letters choices : List ℕ) → choices_of letters ≡ Some choices → (letters ≡ choices_text choices) × (list_all is_letter choices ≡ true)
+choices_takes : (letters choices : List ℕ) → choices_of letters ≡ Some choices
+    → (letters ≡ choices_text choices) × (list_all is_letter choices ≡ true)
 unfolding choices_of
 choices_takes [] choices h = absurd cc
 choices_takes (letter ∷ letters) choices h = elim (cases_Bool (bytes_eq (letter ∷ letters) (codes "-"))) [
@@ -91,12 +97,14 @@ choices_takes (letter ∷ letters) choices h = elim (cases_Bool (bytes_eq (lette
 ]
 
 -- letters are no dash
-letter_no_dash : (letter : ℕ) (letters : List ℕ) → is_letter letter ≡ true → bytes_eq (letter ∷ letters) (codes "-") ≡ false
+letter_no_dash : (letter : ℕ) (letters : List ℕ) → is_letter letter ≡ true
+    → bytes_eq (letter ∷ letters) (codes "-") ≡ false
 letter_no_dash letter letters h =
     let other : eqb letter 45 ≡ false = grind arith in
     rw other refl
 
-choices_again : (choices : List ℕ) → list_all is_letter choices ≡ true → choices_of (choices_text choices) ≡ Some choices
+choices_again : (choices : List ℕ) → list_all is_letter choices ≡ true
+    → choices_of (choices_text choices) ≡ Some choices
 unfolding choices_of
 choices_again [] h = refl
 choices_again (letter ∷ letters) h =
@@ -117,15 +125,20 @@ way_takes end text read h =
     let s = number_at_takes text steps.0 steps.1 in
     let w = word_takes end steps.0.1 letters.0 letters.1 in
     let c = choices_takes letters.0.0 choices.0 choices.1 in
-    let behind : steps.0.1 ≡ choices_text choices.0 ++ (end ∷ letters.0.1) = w ∙ ap (λ (l : List ℕ). l ++ (end ∷ letters.0.1)) c.0 in
+    let behind : steps.0.1 ≡ choices_text choices.0 ++ (end ∷ letters.0.1) =
+    w ∙ ap (λ (l : List ℕ). l ++ (end ∷ letters.0.1)) c.0 in
     let regrouped = append_assoc (decimal steps.0.0) (32 ∷ choices_text choices.0) (end ∷ letters.0.1) in
     rw (← g.1) (onward_past (decimal steps.0.0) 32 s.0 behind ∙ sym regrouped, s.1, both_true g.0 c.1)
 
-pub way_again : (end : ℕ) (way : Way) (behind : List ℕ) → end < 45 → FitsWay way → is_valid_way way ≡ true → way_at end (way_text way ++ (end ∷ behind)) ≡ Some (way, behind)
+pub way_again : (end : ℕ) (way : Way) (behind : List ℕ) → end < 45 → FitsWay way → is_valid_way way ≡ true
+    → way_at end (way_text way ++ (end ∷ behind)) ≡ Some (way, behind)
 unfolding way_at
 way_again end way behind low fits valid =
     let parts = and_parts (ltb 0 way.steps) (list_all is_letter way.choices) valid in
-    let regrouped : way_text way ++ (end ∷ behind) ≡ decimal way.steps ++ (32 ∷ (choices_text way.choices ++ (end ∷ behind))) =
+    let regrouped : way_text way ++ (end ∷ behind) ≡ decimal way.steps
+    ++ (32 ∷ (choices_text way.choices ++ (end ∷ behind))) =
     append_assoc (decimal way.steps) (32 ∷ choices_text way.choices) (end ∷ behind) in
     ap (way_at end) regrouped
-    ∙ rw (number_at_again way.steps (choices_text way.choices ++ (end ∷ behind)) fits) (rw (word_again end (choices_text way.choices) behind (choices_free end way.choices low parts.1)) (rw (choices_again way.choices parts.1) (rw parts.0 refl)))
+    ∙ rw (number_at_again way.steps (choices_text way.choices ++ (end ∷ behind)) fits)
+    (rw (word_again end (choices_text way.choices) behind (choices_free end way.choices low parts.1))
+    (rw (choices_again way.choices parts.1) (rw parts.0 refl)))

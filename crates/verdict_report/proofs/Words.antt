@@ -20,7 +20,8 @@ abbrev pub cut_at : ℕ → List ℕ → Option (List ℕ × List ℕ)
 cut_at place text = Some (take place text, drop (suc place) text)
 
 -- the cut at a first byte that ends the word
-cut_here : (byte : ℕ) (text : List ℕ) (place : ℕ) → place ≡ 0 → Some ([], text) ≡ cond (ltb place (length (byte ∷ text))) (cut_at place (byte ∷ text)) None
+cut_here : (byte : ℕ) (text : List ℕ) (place : ℕ) → place ≡ 0
+    → Some ([], text) ≡ cond (ltb place (length (byte ∷ text))) (cut_at place (byte ∷ text)) None
 cut_here byte text place is =
     let within : ltb place (length (byte ∷ text)) ≡ true = lt-ltb place (length (byte ∷ text)) (omega arith) in
     rw within (rw is refl)
@@ -42,7 +43,8 @@ cut_on byte text place next is = elim (cases_Bool (ltb place (length text))) [
 
 -- a word is cut at the first place of a byte that ends it
 pub word_is : (end : ℕ) (text : List ℕ)
-    → word_at end text ≡ cond (ltb (position_or_len (is_end end) text) (length text)) (cut_at (position_or_len (is_end end) text) text) None
+    → word_at end text ≡ cond (ltb (position_or_len (is_end end) text) (length text))
+    (cut_at (position_or_len (is_end end) text) text) None
 unfolding word_at
 word_is end [] = refl
 word_is end (byte ∷ text) = elim (cases_Bool (byte == end)) [
@@ -52,7 +54,8 @@ word_is end (byte ∷ text) = elim (cases_Bool (byte == end)) [
 
 -- the first place, where there is one
 abbrev pub place_of : ℕ → List ℕ → Option ℕ
-place_of end text = cond (ltb (position_or_len (is_end end) text) (length text)) (Some (position_or_len (is_end end) text)) None
+place_of end text = cond (ltb (position_or_len (is_end end) text) (length text))
+    (Some (position_or_len (is_end end) text)) None
 
 -- where there is no such place, there is no word
 pub no_word : (end : ℕ) (text : List ℕ) → place_of end text ≡ None → word_at end text ≡ None
@@ -67,13 +70,15 @@ pub word_found : (end : ℕ) (text : List ℕ) (place : ℕ) → place_of end te
 word_found end text place found = elim (cases_Bool (ltb (position_or_len (is_end end) text) (length text))) [
   | inl some ↦
       let e = same_some (position_or_len (is_end end) text) place (rw some at found) in
-      let long : length (drop (place + 1) text) ≤ length text - (place + 1) = omega (arith, length-drop (place + 1) text) in
+      let long : length (drop (place + 1) text) ≤ length text - (place + 1) =
+      omega (arith, length-drop (place + 1) text) in
       word_is end text ∙ rw (some, e, take_all (length text - (place + 1)) (drop (place + 1) text) long, add-one) refl
   | inr past ↦ absurd (cc (rw past at found))
 ]
 
 -- a text that has a word begins with it and the byte that ends it
-pub word_takes : (end : ℕ) (text : List ℕ) (word : List ℕ × List ℕ) → word_at end text ≡ Some word → text ≡ word.0 ++ (end ∷ word.1)
+pub word_takes : (end : ℕ) (text : List ℕ) (word : List ℕ × List ℕ) → word_at end text ≡ Some word
+    → text ≡ word.0 ++ (end ∷ word.1)
 unfolding word_at
 word_takes end [] word h = absurd cc
 word_takes end (byte ∷ text) word h = elim (cases_Bool (byte == end)) [
@@ -88,7 +93,8 @@ word_takes end (byte ∷ text) word h = elim (cases_Bool (byte == end)) [
 ]
 
 -- a word free of the byte that ends it is read again
-pub word_again : (end : ℕ) (word behind : List ℕ) → is_free end word ≡ true → word_at end (word ++ (end ∷ behind)) ≡ Some (word, behind)
+pub word_again : (end : ℕ) (word behind : List ℕ) → is_free end word ≡ true
+    → word_at end (word ++ (end ∷ behind)) ≡ Some (word, behind)
 unfolding word_at
 word_again end [] behind free = rw (eq-eqb end end refl) refl
 word_again end (byte ∷ word) behind free =

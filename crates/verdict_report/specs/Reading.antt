@@ -44,11 +44,13 @@ after front text = guarded (bytes_eq (take (length front) text) front) (drop (le
 -- the text before the first byte of this value, and the text after that byte
 unfoldable pub word_at : ℕ → List ℕ → Read (List ℕ)
 word_at end [] = None
-word_at end (byte ∷ text) = if byte == end then Some ([], text) else option_map (λ word. (byte ∷ word.0, word.1)) (word_at end text)
+word_at end (byte ∷ text) = if byte == end then Some ([], text) else option_map (λ word. (byte ∷ word.0, word.1))
+    (word_at end text)
 
 -- the number that has this text
 unfoldable pub number_of : List ℕ → Option ℕ
-number_of digits = guarded (nat_lt (digits_value 10 digits) (2 ^ 64) && bytes_eq (decimal (digits_value 10 digits)) digits) (digits_value 10 digits)
+number_of digits = guarded (nat_lt (digits_value 10 digits) (2 ^ 64) && bytes_eq (decimal (digits_value 10 digits))
+    digits) (digits_value 10 digits)
 
 -- a number and the space after it
 unfoldable pub number_at : List ℕ → Read ℕ

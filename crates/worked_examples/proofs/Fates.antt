@@ -23,15 +23,18 @@ block_is c (inl is) = ap (λ (c : Configuration). c.at / 16) is
 block_is c (inr (inl is)) = ap (λ (c : Configuration). c.at / 16) is
 block_is c (inr (inr is)) = ap (λ (c : Configuration). c.at / 16) is
 
-same_block : (p q : ℕ) (addresses : List ℕ) → p / 16 ≡ 4096 → q / 16 ≡ 4096 → ends_in_hit (geometry 16 1 1) (q ∷ p ∷ addresses) ≡ true
+same_block : (p q : ℕ) (addresses : List ℕ) → p / 16 ≡ 4096 → q / 16 ≡ 4096
+    → ends_in_hit (geometry 16 1 1) (q ∷ p ∷ addresses) ≡ true
 same_block p q addresses before now = rw (before, now) refl
 
 -- each path but the shortest ends in a hit
-longer_hits : (c : Configuration) (earlier : List Configuration) → IsPath step (start_of 0x10000) (c ∷ earlier) → (c.at ≡ 0x10000 → ⊥)
+longer_hits : (c : Configuration) (earlier : List Configuration) → IsPath step (start_of 0x10000) (c ∷ earlier)
+    → (c.at ≡ 0x10000 → ⊥)
     → ends_in_hit (geometry 16 1 1) (fetches_of (c ∷ earlier)) ≡ true
 longer_hits c [] path other = absurd (other (ap (λ (c : Configuration). c.at) path))
 longer_hits c (b ∷ earlier) path other =
-    same_block b.at c.at (fetches_of earlier) (block_is b (among earlier b path.1)) (block_is c (among (b ∷ earlier) c path))
+    same_block b.at c.at (fetches_of earlier) (block_is b (among earlier b path.1))
+    (block_is c (among (b ∷ earlier) c path))
 
 -- the configurations are somewhere else than at the entry
 abbrev pub AreElsewhere : (Configuration → Type 0) → Type 0
@@ -66,7 +69,8 @@ module _ (Ends : Configuration → Type 0) where
     ends = ends;
   }
 
-  through : Ends (at 0x10008) → EndsIn (program_of loop_and_rest) 0x10000 Ends (at 0x10008 ∷ at 0x10004 ∷ at 0x10000 ∷ [])
+  through : Ends (at 0x10008)
+      → EndsIn (program_of loop_and_rest) 0x10000 Ends (at 0x10008 ∷ at 0x10004 ∷ at 0x10000 ∷ [])
   unfolding successors next_at word_at kind_of pair_of
   through ends = record {
     last = at 0x10008;
@@ -76,10 +80,12 @@ module _ (Ends : Configuration → Type 0) where
     ends = ends;
   }
 
-  pub second_right : Ends (at 0x10004) → AreElsewhere Ends → IsRight (program_of loop_and_rest) 0x10000 (geometry 16 1 1) Ends AlwaysHit
+  pub second_right : Ends (at 0x10004) → AreElsewhere Ends
+      → IsRight (program_of loop_and_rest) 0x10000 (geometry 16 1 1) Ends AlwaysHit
   second_right ends elsewhere = record { some = (_, (_, once_to ends, refl)); each = each_hits Ends elsewhere }
 
-  pub third_right : Ends (at 0x10008) → AreElsewhere Ends → IsRight (program_of loop_and_rest) 0x10000 (geometry 16 1 1) Ends AlwaysHit
+  pub third_right : Ends (at 0x10008) → AreElsewhere Ends
+      → IsRight (program_of loop_and_rest) 0x10000 (geometry 16 1 1) Ends AlwaysHit
   third_right ends elsewhere = record { some = (_, (_, through ends, refl)); each = each_hits Ends elsewhere }
 
   pub first_right : Ends (at 0x10000)

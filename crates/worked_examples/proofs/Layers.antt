@@ -39,12 +39,14 @@ module _ (step : Step) where
   reached_first c ([], long, path) = path
   reached_first c (b ∷ earlier, long, path) = absurd (omega (arith, long))
 
-  pub reached_next : (n : ℕ) (c : Configuration) → Reached (suc n) c → (b : Configuration) × Reached n b × IsSuccessor step b c
+  pub reached_next : (n : ℕ) (c : Configuration) → Reached (suc n) c
+      → (b : Configuration) × Reached n b × IsSuccessor step b c
   reached_next n c ([], long, path) = absurd (omega (arith, long))
   reached_next n c (b ∷ earlier, long, path) = (b, (earlier, omega (arith, long), path.1), path.0)
 
   -- what one move from known configurations reaches
-  pub reached_from : (n : ℕ) (known c : Configuration) (found : List Configuration) → ((b : Configuration) → Reached n b → b ≡ known)
+  pub reached_from : (n : ℕ) (known c : Configuration) (found : List Configuration)
+      → ((b : Configuration) → Reached n b → b ≡ known)
       → step known ≡ Ok found → Reached (suc n) c → Contains found c
   reached_from n known c found only leads reached =
       let before = reached_next n c reached in
@@ -59,7 +61,10 @@ module _ (step : Step) where
   pub start_layer : IsLayer step (at 0x10000) configuration_cmp 0 (at 0x10000 ∷ [])
   start_layer = record {
     sorted = sorted_one (at 0x10000);
-    members = λ c. (λ has. start_in c (one_of_one _ c has), λ in_layer. has_first _ c [] (reached_first c in_layer.reached));
+    members = λ c. (
+      λ has. start_in c (one_of_one _ c has),
+      λ in_layer. has_first _ c [] (reached_first c in_layer.reached),
+    );
   }
 
   not_sooner : (c : Configuration) (p : ℕ) → c ≡ at p → (p ≡ 0x10000 → ⊥) → (m : ℕ) → m < 1 → Reached m c → ⊥
@@ -71,7 +76,8 @@ module _ (step : Step) where
       let P : Configuration → Type 0 = λ c. IsSuccessor step (at 0x10000) c in
       (at 0x10000 ∷ [], refl, (subst P (sym is) follows, refl))
 
-  pub in_next : (c : Configuration) (p : ℕ) → c ≡ at p → (p ≡ 0x10000 → ⊥) → IsSuccessor step (at 0x10000) (at p) → InLayer 1 c
+  pub in_next : (c : Configuration) (p : ℕ) → c ≡ at p → (p ≡ 0x10000 → ⊥) → IsSuccessor step (at 0x10000) (at p)
+      → InLayer 1 c
   in_next c p is other follows = record { reached = follows_start c p is follows; no_sooner = not_sooner c p is other }
 
 -- what the moves of the loop reach
@@ -86,7 +92,8 @@ follows_third b c (inl is) follows = absurd (none_of_none c (follows_in b _ c _ 
 follows_third b c (inr is) follows = one_of_one _ c (follows_in b _ c _ is first follows)
 
 reached_fourth : (c : Configuration) → Reached step 3 c → c ≡ at 0x10004
-reached_fourth c reached = let before = reached_next step 2 c reached in follows_third before.0 c (reached_third before.0 before.1) before.2
+reached_fourth c reached = let before =
+    reached_next step 2 c reached in follows_third before.0 c (reached_third before.0 before.1) before.2
 
 to_second : IsSuccessor step (at 0x10000) (at 0x10004)
 unfolding successors next_at word_at kind_of pair_of
@@ -106,8 +113,10 @@ second_layer = record {
 }
 
 third_no_sooner : (c : Configuration) → c ≡ at 0x10008 → (m : ℕ) → m < 2 → Reached step m c → ⊥
-third_no_sooner c is zero sooner reached = let same = apart c 0x10008 0x10000 is (reached_first step c reached) in omega (arith, same)
-third_no_sooner c is (suc zero) sooner reached = let same = apart c 0x10008 0x10004 is (reached_second c reached) in omega (arith, same)
+third_no_sooner c is zero sooner reached = let same =
+    apart c 0x10008 0x10000 is (reached_first step c reached) in omega (arith, same)
+third_no_sooner c is (suc zero) sooner reached = let same =
+    apart c 0x10008 0x10004 is (reached_second c reached) in omega (arith, same)
 third_no_sooner c is (suc (suc m)) sooner reached = omega arith
 
 third_in : (c : Configuration) → c ≡ at 0x10008 → IsInLayer step (at 0x10000) 2 c
@@ -118,14 +127,18 @@ third_in c is =
       no_sooner = third_no_sooner c is;
     }
 
-third_only : (c : Configuration) → (c ≡ at 0x10008) ⊎ (c ≡ at 0x10000) → IsInLayer step (at 0x10000) 2 c → Contains (at 0x10008 ∷ []) c
+third_only : (c : Configuration) → (c ≡ at 0x10008) ⊎ (c ≡ at 0x10000) → IsInLayer step (at 0x10000) 2 c
+    → Contains (at 0x10008 ∷ []) c
 third_only c (inl is) in_layer = has_first _ c [] is
 third_only c (inr is) in_layer = absurd (in_layer.no_sooner 0 (lit< tt) ([], refl, is))
 
 third_layer : IsLayer step (at 0x10000) configuration_cmp 2 (at 0x10008 ∷ [])
 third_layer = record {
   sorted = sorted_one (at 0x10008);
-  members = λ c. (λ has. third_in c (one_of_one _ c has), λ in_layer. third_only c (reached_third c in_layer.reached) in_layer);
+  members = λ c. (
+    λ has. third_in c (one_of_one _ c has),
+    λ in_layer. third_only c (reached_third c in_layer.reached) in_layer,
+  );
 }
 
 sorted_none : IsStrictlySortedBy configuration_cmp []
@@ -134,7 +147,8 @@ sorted_none = tt
 
 none_later : (c : Configuration) → IsInLayer step (at 0x10000) 3 c → ⊥
 none_later c in_layer =
-    let is = reached_fourth c in_layer.reached in in_layer.no_sooner 1 (lit< tt) (follows_start step c 0x10004 is to_second)
+    let is = reached_fourth c in_layer.reached in in_layer.no_sooner 1 (lit< tt)
+    (follows_start step c 0x10004 is to_second)
 
 -- after the third layer is none
 last_layer : IsLayer step (at 0x10000) configuration_cmp 3 []

@@ -15,14 +15,16 @@ abbrev block : Segment
 block = record { at = 0x10000; size = 16; offset = 84 }
 
 both : (whole has : Bool) (f : Segment → ℕ) (s : Segment)
-    → is_some (if whole then option_map f (if has then Some s else None) else None) ≡ true → (whole ≡ true) × (has ≡ true)
+    → is_some (if whole then option_map f (if has then Some s else None) else None) ≡ true
+    → (whole ≡ true) × (has ≡ true)
 both true true f s h = (refl, refl)
 both true false f s h = cc
 both false has f s h = cc
 
 inside : (p : ℕ) → IsText (program_of loop_and_rest) p → ((p % 4 == 0) ≡ true) × (has_word p block ≡ true)
 unfolding word_at
-inside p text = both (p % 4 == 0) (has_word p block) (λ s. u32_at (file_of loop_and_rest) (s.offset + (p - s.at))) block text
+inside p text = both (p % 4 == 0) (has_word p block) (λ s. u32_at (file_of loop_and_rest) (s.offset + (p - s.at))) block
+    text
 
 listed : (i p : ℕ) → i ≤ 3 → 0x10000 + 4 * i ≡ p → Contains places p
 listed zero p few is = (0, lit< tt, is)
@@ -42,7 +44,8 @@ unfolding word_at
 is_text p (zero, lt, is) = let P : ℕ → Type 0 = λ q. IsText (program_of loop_and_rest) q in subst P is refl
 is_text p (suc zero, lt, is) = let P : ℕ → Type 0 = λ q. IsText (program_of loop_and_rest) q in subst P is refl
 is_text p (suc (suc zero), lt, is) = let P : ℕ → Type 0 = λ q. IsText (program_of loop_and_rest) q in subst P is refl
-is_text p (suc (suc (suc zero)), lt, is) = let P : ℕ → Type 0 = λ q. IsText (program_of loop_and_rest) q in subst P is refl
+is_text p (suc (suc (suc zero)), lt, is) = let P : ℕ → Type 0 =
+    λ q. IsText (program_of loop_and_rest) q in subst P is refl
 is_text p (suc (suc (suc (suc k))), lt, is) = absurd (omega arith)
 
 pub all_text : (p : ℕ) → Contains places p ↔ IsText (program_of loop_and_rest) p

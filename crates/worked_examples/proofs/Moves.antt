@@ -31,7 +31,8 @@ abbrev pub IsAmong : Configuration → Type 0
 IsAmong c = (c ≡ at 0x10000) ⊎ ((c ≡ at 0x10004) ⊎ (c ≡ at 0x10008))
 
 -- what follows a configuration whose successors are known
-pub follows_in : (b known c : Configuration) (found : List Configuration) → b ≡ known → step known ≡ Ok found → IsSuccessor step b c → Contains found c
+pub follows_in : (b known c : Configuration) (found : List Configuration) → b ≡ known → step known ≡ Ok found
+    → IsSuccessor step b c → Contains found c
 follows_in b known c found is leads follows =
     let P : Configuration → Type 0 = λ b. IsSuccessor step b c in
     let Q : Successors → Type 0 = λ r. IsOkAnd r (λ found. Contains found c) in
@@ -58,6 +59,7 @@ stays b c (inl is) follows = inr (inl (one_of_one _ c (follows_in b _ c _ is fir
 stays b c (inr (inl is)) follows = back_or_on c (one_of_two _ _ c (follows_in b _ c _ is second follows))
 stays b c (inr (inr is)) follows = absurd (none_of_none c (follows_in b _ c _ is third follows))
 
-pub among : (earlier : List Configuration) (c : Configuration) → IsPath step (start_of 0x10000) (c ∷ earlier) → IsAmong c
+pub among : (earlier : List Configuration) (c : Configuration) → IsPath step (start_of 0x10000) (c ∷ earlier)
+    → IsAmong c
 among [] c path = inl path
 among (b ∷ earlier) c path = stays b c (among earlier b path.1) path.0

@@ -29,15 +29,23 @@ segments_of (Err fault) = Err fault
 
 -- flags 5 are those of text, and 6 those of data
 abbrev pub worked_segments : List (List ℕ × Result (List Segment) ElfFault)
-worked_segments =
-    (file_of_two (loaded 116 0x20000 4 5) (loaded 120 0x10000 4 5), Ok (segment 0x10000 4 120 ∷ segment 0x20000 4 116 ∷ []))
-    ∷ (file_of_two (loaded 116 0x10000 6 5) (loaded 122 0x10006 2 5), Ok (segment 0x10000 6 116 ∷ segment 0x10006 2 122 ∷ []))
+worked_segments = (
+  file_of_two (loaded 116 0x20000 4 5) (loaded 120 0x10000 4 5),
+  Ok (segment 0x10000 4 120 ∷ segment 0x20000 4 116 ∷ []),
+)
+    ∷ (
+      file_of_two (loaded 116 0x10000 6 5) (loaded 122 0x10006 2 5),
+      Ok (segment 0x10000 6 116 ∷ segment 0x10006 2 122 ∷ []),
+    )
     ∷ (file_of_two (loaded 116 0x10000 4 5) (loaded 120 0x10003 4 5), Err (SegmentsOverlap 1))
     ∷ (file_of_two (loaded 116 0x10000 4 5) (loaded 116 0x10000 4 6), Ok (segment 0x10000 4 116 ∷ []))
     ∷ (file_of_two (loaded 999 0x10000 0 5) (loaded 120 0x10000 4 5), Ok (segment 0x10000 4 120 ∷ []))
     ∷ (file_of_two (loaded 116 0x10000 4 5) (loaded 120 0x10000 5 5), Err (SegmentOutside 1))
     ∷ (file_of_two (loaded 116 0xfffffffc 8 5) (loaded 116 0x10000 8 5), Err (SegmentWraps 0))
-    ∷ (file_of_two (loaded 116 0xfffffffc 4 5) (loaded 120 0x00000000 4 5), Ok (segment 0 4 120 ∷ segment 0xfffffffc 4 116 ∷ []))
+    ∷ (
+      file_of_two (loaded 116 0xfffffffc 4 5) (loaded 120 0x00000000 4 5),
+      Ok (segment 0 4 120 ∷ segment 0xfffffffc 4 116 ∷ []),
+    )
     ∷ (file_of_two (loaded 116 0x10000 8 6) (loaded 116 0x10000 0 5), Err NoText)
     ∷ []
 

@@ -6,7 +6,8 @@ use Rattle.set_list.proofs.count_found.Goals.{then-found-wanted+then-wanted-foun
 pub loop-item-preserved : goal.loop-item-preserved
 loop-item-preserved c = elim c.if-found-wanted.branch [
   | then-found-wanted+then-wanted-found w ↦
-      rw w.found-is (found_more _ _ _ _ c.requires.wanted c.requires.items c.loop-item.invariant w.if-found-wanted.true c.loop-item-test.true w.if-wanted-found.true)
+      rw w.found-is (found_more _ _ _ _ c.requires.wanted c.requires.items c.loop-item.invariant w.if-found-wanted.true
+      c.loop-item-test.true w.if-wanted-found.true)
   | else-found-wanted w ↦
       rw w.found-is (found_same _ _ _ _ c.loop-item.invariant (λ left same. elim w.else-found-wanted.branch [
         | else-found-wanted-via-then-found-wanted+else-wanted-found v ↦ v.if-wanted-found.false same

@@ -21,6 +21,7 @@ loop-at-preserved g c = record {
   sent = Appends-take _ _ _ _ _ _ c.loop-at.invariant.sent c.in_ok-at.ensures.bytes;
   faults = grind (arith, c.in_ok-at.ensures.faults, c.loop-at.invariant.faults);
   refusals = grind (arith, c.in_ok-at.ensures.refusals, c.loop-at.invariant.refusals);
-  writes = MovesSome-more g.O.Sink.writes c.args.out.now c.loop-at.out c.write.new.self c.in_ok-at.field-0 c.loop-at.invariant.writes
+  writes = MovesSome-more g.O.Sink.writes c.args.out.now c.loop-at.out c.write.new.self c.in_ok-at.field-0
+      c.loop-at.invariant.writes
       (grind (arith, common_steps, c.in_ok-at.ensures.some)) c.in_ok-at.ensures.step;
 }

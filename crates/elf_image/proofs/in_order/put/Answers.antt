@@ -11,6 +11,8 @@ returns c =
     let segment = c.args.segment in
     let same = ap (λ items. position (λ next. nat_le segment.at next.at) items) c.deref.ensures.value in
     elim c.match-first_from.branch [
-      | in-Some w ↦ c.in_ok-insert.ensures.items ∙ ap (λ n. insert others n segment) w.place-is ∙ sym (placed_at segment others w.in-Some.place (w.in-Some.ensures ∙ same))
-      | in-None w ↦ c.in_ok-insert.ensures.items ∙ ap (λ n. insert others n segment) (omega (arith, ap length c.deref.ensures.value)) ∙ sym (placed_last segment others (w.in-None.ensures ∙ same))
+      | in-Some w ↦ c.in_ok-insert.ensures.items ∙ ap (λ n. insert others n segment) w.place-is
+          ∙ sym (placed_at segment others w.in-Some.place (w.in-Some.ensures ∙ same))
+      | in-None w ↦ c.in_ok-insert.ensures.items ∙ ap (λ n. insert others n segment)
+          (omega (arith, ap length c.deref.ensures.value)) ∙ sym (placed_last segment others (w.in-None.ensures ∙ same))
     ]

@@ -16,21 +16,27 @@ returns-in_err-check_identity-clause-fault c =
 
 pub returns-in_err-check_machine-clause-fault : goal.returns-in_err-check_machine-clause-fault
 returns-in_err-check_machine-clause-fault c =
-    let p = err_from_is_err_and c.from_residual-in_err-check_machine.result c.from_residual-in_err-check_machine.ensures.1 in
+    let p = err_from_is_err_and c.from_residual-in_err-check_machine.result
+    c.from_residual-in_err-check_machine.ensures.1 in
     let same : c.new-file.result ≡ c.args.bytes.items = c.new-file.ensures ∙ c.deref.ensures.value in
-    rw (p.1, p.2) (inl (sym (ap image_of same) ∙ fault_of_machine c.new-file.result _ c.in_ok-check_identity.ensures c.in_err-check_machine.ensures))
+    rw (p.1, p.2) (inl (sym (ap image_of same) ∙ fault_of_machine c.new-file.result _ c.in_ok-check_identity.ensures
+    c.in_err-check_machine.ensures))
 
 pub returns-in_err-check_table-clause-fault : goal.returns-in_err-check_table-clause-fault
 returns-in_err-check_table-clause-fault c =
-    let p = err_from_is_err_and c.from_residual-in_err-check_table.result c.from_residual-in_err-check_table.ensures.1 in
+    let p = err_from_is_err_and c.from_residual-in_err-check_table.result
+    c.from_residual-in_err-check_table.ensures.1 in
     let same : c.new-file.result ≡ c.args.bytes.items = c.new-file.ensures ∙ c.deref.ensures.value in
-    rw (p.1, p.2) (inl (sym (ap image_of same) ∙ fault_of_table c.new-file.result _ c.in_ok-check_identity.ensures c.in_ok-check_machine.ensures c.in_err-check_table.ensures))
+    rw (p.1, p.2) (inl (sym (ap image_of same) ∙ fault_of_table c.new-file.result _ c.in_ok-check_identity.ensures
+    c.in_ok-check_machine.ensures c.in_err-check_table.ensures))
 
 pub returns-in_err-check_segments-clause-fault : goal.returns-in_err-check_segments-clause-fault
 returns-in_err-check_segments-clause-fault c =
-    let p = err_from_is_err_and c.from_residual-in_err-check_segments.result c.from_residual-in_err-check_segments.ensures.1 in
+    let p = err_from_is_err_and c.from_residual-in_err-check_segments.result
+    c.from_residual-in_err-check_segments.ensures.1 in
     let same : c.new-file.result ≡ c.args.bytes.items = c.new-file.ensures ∙ c.deref.ensures.value in
-    rw (p.1, p.2) (inl (sym (ap image_of same) ∙ fault_of_segments c.new-file.result _ c.in_ok-check_identity.ensures c.in_ok-check_machine.ensures c.in_ok-check_table.ensures c.in_err-check_segments.ensures))
+    rw (p.1, p.2) (inl (sym (ap image_of same) ∙ fault_of_segments c.new-file.result _ c.in_ok-check_identity.ensures
+    c.in_ok-check_machine.ensures c.in_ok-check_table.ensures c.in_err-check_segments.ensures))
 
 pub invariant_of-result : goal.invariant_of-result
 invariant_of-result c =
@@ -46,7 +52,8 @@ pub returns-clause-image : goal.returns-clause-image
 returns-clause-image c =
     let file = c.new-file.result in
     let same : file ≡ c.args.bytes.items = c.new-file.ensures ∙ c.deref.ensures.value in
-    let image = kept file c.in_ok-check_identity.ensures c.in_ok-check_machine.ensures c.in_ok-check_table.ensures c.in_ok-check_segments.ensures in
+    let image = kept file c.in_ok-check_identity.ensures c.in_ok-check_machine.ensures c.in_ok-check_table.ensures
+    c.in_ok-check_segments.ensures in
     let entry = c.entry-entry.ensures in
     let segments = c.in-Ok.ensures in
     cc
@@ -55,44 +62,57 @@ pub returns-in_err-check_identity-clause-refused : goal.returns-in_err-check_ide
 returns-in_err-check_identity-clause-refused c =
     let p = err_from_is_err_and c.from_residual.result c.from_residual.ensures.1 in
     let same : c.new-file.result ≡ c.args.bytes.items = c.new-file.ensures ∙ c.deref.ensures.value in
-    rw (p.1, p.2) (only_fault c.args.bytes.items _ _ refl (sym (ap image_of same) ∙ fault_of_identity c.new-file.result _ c.in_err-check_identity.ensures))
+    rw (p.1, p.2) (only_fault c.args.bytes.items _ _ refl
+    (sym (ap image_of same) ∙ fault_of_identity c.new-file.result _ c.in_err-check_identity.ensures))
 
 pub returns-in_err-check_machine-clause-refused : goal.returns-in_err-check_machine-clause-refused
 returns-in_err-check_machine-clause-refused c =
-    let p = err_from_is_err_and c.from_residual-in_err-check_machine.result c.from_residual-in_err-check_machine.ensures.1 in
+    let p = err_from_is_err_and c.from_residual-in_err-check_machine.result
+    c.from_residual-in_err-check_machine.ensures.1 in
     let same : c.new-file.result ≡ c.args.bytes.items = c.new-file.ensures ∙ c.deref.ensures.value in
-    rw (p.1, p.2) (only_fault c.args.bytes.items _ _ refl (sym (ap image_of same) ∙ fault_of_machine c.new-file.result _ c.in_ok-check_identity.ensures c.in_err-check_machine.ensures))
+    rw (p.1, p.2) (only_fault c.args.bytes.items _ _ refl
+    (sym (ap image_of same) ∙ fault_of_machine c.new-file.result _ c.in_ok-check_identity.ensures
+    c.in_err-check_machine.ensures))
 
 pub returns-in_err-check_table-clause-refused : goal.returns-in_err-check_table-clause-refused
 returns-in_err-check_table-clause-refused c =
-    let p = err_from_is_err_and c.from_residual-in_err-check_table.result c.from_residual-in_err-check_table.ensures.1 in
+    let p = err_from_is_err_and c.from_residual-in_err-check_table.result
+    c.from_residual-in_err-check_table.ensures.1 in
     let same : c.new-file.result ≡ c.args.bytes.items = c.new-file.ensures ∙ c.deref.ensures.value in
-    rw (p.1, p.2) (only_fault c.args.bytes.items _ _ refl (sym (ap image_of same) ∙ fault_of_table c.new-file.result _ c.in_ok-check_identity.ensures c.in_ok-check_machine.ensures c.in_err-check_table.ensures))
+    rw (p.1, p.2) (only_fault c.args.bytes.items _ _ refl
+    (sym (ap image_of same) ∙ fault_of_table c.new-file.result _ c.in_ok-check_identity.ensures
+    c.in_ok-check_machine.ensures c.in_err-check_table.ensures))
 
 pub returns-in_err-check_segments-clause-refused : goal.returns-in_err-check_segments-clause-refused
 returns-in_err-check_segments-clause-refused c =
-    let p = err_from_is_err_and c.from_residual-in_err-check_segments.result c.from_residual-in_err-check_segments.ensures.1 in
+    let p = err_from_is_err_and c.from_residual-in_err-check_segments.result
+    c.from_residual-in_err-check_segments.ensures.1 in
     let same : c.new-file.result ≡ c.args.bytes.items = c.new-file.ensures ∙ c.deref.ensures.value in
-    rw (p.1, p.2) (only_fault c.args.bytes.items _ _ refl (sym (ap image_of same) ∙ fault_of_segments c.new-file.result _ c.in_ok-check_identity.ensures c.in_ok-check_machine.ensures c.in_ok-check_table.ensures c.in_err-check_segments.ensures))
+    rw (p.1, p.2) (only_fault c.args.bytes.items _ _ refl
+    (sym (ap image_of same) ∙ fault_of_segments c.new-file.result _ c.in_ok-check_identity.ensures
+    c.in_ok-check_machine.ensures c.in_ok-check_table.ensures c.in_err-check_segments.ensures))
 
 pub returns-in_default-clause-refused : goal.returns-in_default-clause-refused
 returns-in_default-clause-refused c =
     let file = c.new-file.result in
     let same : file ≡ c.args.bytes.items = c.new-file.ensures ∙ c.deref.ensures.value in
     no_fault c.args.bytes.items _ _
-    (sym (ap image_of same) ∙ kept file c.in_ok-check_identity.ensures c.in_ok-check_machine.ensures c.in_ok-check_table.ensures c.in_ok-check_segments.ensures)
+    (sym (ap image_of same) ∙ kept file c.in_ok-check_identity.ensures c.in_ok-check_machine.ensures
+    c.in_ok-check_table.ensures c.in_ok-check_segments.ensures)
 
 pub returns-clause-refused : goal.returns-clause-refused
 returns-clause-refused c =
     let file = c.new-file.result in
     let same : file ≡ c.args.bytes.items = c.new-file.ensures ∙ c.deref.ensures.value in
     no_fault c.args.bytes.items _ _
-    (sym (ap image_of same) ∙ kept file c.in_ok-check_identity.ensures c.in_ok-check_machine.ensures c.in_ok-check_table.ensures c.in_ok-check_segments.ensures)
+    (sym (ap image_of same) ∙ kept file c.in_ok-check_identity.ensures c.in_ok-check_machine.ensures
+    c.in_ok-check_table.ensures c.in_ok-check_segments.ensures)
 
 pub returns-clause-segments : goal.returns-clause-segments
 returns-clause-segments c =
     let file = c.new-file.result in
     let same : file ≡ c.args.bytes.items = c.new-file.ensures ∙ c.deref.ensures.value in
-    let P : List ℕ → Type 0 = λ bytes. IsPermutation (map segment_of (executable_headers bytes)) c.in-Ok.segments.items in
+    let P : List ℕ → Type 0 = λ bytes. IsPermutation (map segment_of (executable_headers bytes))
+    c.in-Ok.segments.items in
     let Q : List Segment → Type 0 = λ segments. IsPermutation (map segment_of (executable_headers file)) segments in
     subst P same (subst Q (sym c.in-Ok.ensures) (in_order_moves (map segment_of (executable_headers file))))

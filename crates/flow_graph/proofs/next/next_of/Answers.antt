@@ -12,4 +12,5 @@ pub returns-in-Some-clause-refusals : goal.returns-in-Some-clause-refusals
 returns-in-Some-clause-refusals c =
     let P : Going → Type 0 = λ going. IfErr going (IsRefusalAt c.args.image.now c.args.at) in
     subst P (sym (c.next_by_pair.ensures c.args.top))
-    (refused c.args.image.now c.args.at c.args.top (pair_transfer c.pair_target.result (link_named (rd c.unwrap-word.result))) c.requires)
+    (refused c.args.image.now c.args.at c.args.top (pair_transfer c.pair_target.result
+    (link_named (rd c.unwrap-word.result))) c.requires)

@@ -16,36 +16,55 @@ use Rattle.focus_plain.proofs.ends.ends.Goals.{then-is_some-small, else-is_some-
 pub note-requires : goal.note-requires
 note-requires c =
     let entries = c.args.entries.now in
-    let entry : Entry = get_or entries c.loop-index.index (record { node = 0; younger = None; earlier = None; next = None }) in
+    let entry : Entry = get_or entries c.loop-index.index
+    (record { node = 0; younger = None; earlier = None; next = None }) in
     let inside : c.loop-index.index < length entries = omega (arith, c.loop-index-test.true) in
     let read = node-read entries c.loop-index.index entry (slice_get-get_or entries c.loop-index.index _ inside) in
-    omega (arith, c.requires.inside c.loop-index.index inside, read, ap length c.deref_mut.ensures.value, c.loop-index.invariant.one_each)
+    omega (
+      arith,
+      c.requires.inside c.loop-index.index inside,
+      read,
+      ap length c.deref_mut.ensures.value,
+      c.loop-index.invariant.one_each,
+    )
 
 pub loop-index-preserved : goal.loop-index-preserved
 loop-index-preserved c =
     let entries = c.args.entries.now in
-    let entry : Entry = get_or entries c.loop-index.index (record { node = 0; younger = None; earlier = None; next = None }) in
+    let entry : Entry = get_or entries c.loop-index.index
+    (record { node = 0; younger = None; earlier = None; next = None }) in
     let inside : c.loop-index.index < length entries = omega (arith, c.loop-index-test.true) in
-    let found : slice_get entries c.loop-index.index ≡ Some entry = slice_get-get_or entries c.loop-index.index _ inside in
-    let there : c.is_some.result ≡ is_some (place_of (slice_get entries c.loop-index.index)) = c.is_some.ensures ∙ sym (ap (λ (o : Option Entry). is_some (place_of o)) found) in
+    let found : slice_get entries c.loop-index.index ≡ Some entry =
+    slice_get-get_or entries c.loop-index.index _ inside in
+    let there : c.is_some.result ≡ is_some (place_of (slice_get entries c.loop-index.index)) =
+    c.is_some.ensures ∙ sym (ap (λ (o : Option Entry). is_some (place_of o)) found) in
     elim c.if-is_some-small.branch [
       | then-is_some-small w ↦
-          let as_long : length w.note.new.ends ≡ length c.loop-index.ends.items = w.note.ensures.as_long ∙ ap length w.deref_mut.ensures.value in
+          let as_long : length w.note.new.ends ≡ length c.loop-index.ends.items =
+          w.note.ensures.as_long ∙ ap length w.deref_mut.ensures.value in
           let new_is : c.if-is_some-small.ends.items ≡ w.note.new.ends =
-          ap (λ (v : Vec (Option ℕ) Global). v.items) w.ends-is ∙ with_items_is c.loop-index.ends w.note.new.ends (as_long ∙ sym c.loop-index.ends.ok.0) in
-          let noted : IsNoted c.loop-index.ends.items c.if-is_some-small.ends.items (node_at (trail_of entries) c.loop-index.index) c.loop-index.index =
-          subst (λ (n : ℕ). IsNoted c.loop-index.ends.items c.if-is_some-small.ends.items n c.loop-index.index) (sym (node-read entries c.loop-index.index entry found))
-          (subst (λ (new : List (Option ℕ)). IsNoted c.loop-index.ends.items new entry.node c.loop-index.index) (sym new_is)
-          (subst (λ (old : List (Option ℕ)). IsNoted old w.note.new.ends entry.node c.loop-index.index) w.deref_mut.ensures.value w.note.ensures)) in
+          ap (λ (v : Vec (Option ℕ) Global). v.items) w.ends-is
+          ∙ with_items_is c.loop-index.ends w.note.new.ends (as_long ∙ sym c.loop-index.ends.ok.0) in
+          let noted : IsNoted c.loop-index.ends.items c.if-is_some-small.ends.items
+          (node_at (trail_of entries) c.loop-index.index) c.loop-index.index =
+          subst (λ (n : ℕ). IsNoted c.loop-index.ends.items c.if-is_some-small.ends.items n c.loop-index.index)
+          (sym (node-read entries c.loop-index.index entry found))
+          (subst (λ (new : List (Option ℕ)). IsNoted c.loop-index.ends.items new entry.node c.loop-index.index)
+          (sym new_is)
+          (subst (λ (old : List (Option ℕ)). IsNoted old w.note.new.ends entry.node c.loop-index.index)
+          w.deref_mut.ensures.value w.note.ensures)) in
           record {
-            ends = ends_noted entries c.loop-index.index c.args.small c.loop-index.ends.items c.if-is_some-small.ends.items c.loop-index.invariant.ends
+            ends = ends_noted entries c.loop-index.index c.args.small c.loop-index.ends.items
+                c.if-is_some-small.ends.items c.loop-index.invariant.ends
                 (sym there ∙ same_tests c.is_some.result c.args.small w.if-is_some-small.true) noted;
             one_each = ap length new_is ∙ as_long ∙ c.loop-index.invariant.one_each;
           }
       | else-is_some-small w ↦
-          let kept : c.loop-index.ends.items ≡ c.if-is_some-small.ends.items = ap (λ (v : Vec (Option ℕ) Global). v.items) (sym w.ends-is) in
+          let kept : c.loop-index.ends.items ≡ c.if-is_some-small.ends.items =
+          ap (λ (v : Vec (Option ℕ) Global). v.items) (sym w.ends-is) in
           record {
-            ends = subst (AreEnds entries (c.loop-index.index + 1) c.args.small) kept (ends_passed entries c.loop-index.index c.args.small c.loop-index.ends.items c.loop-index.invariant.ends
+            ends = subst (AreEnds entries (c.loop-index.index + 1) c.args.small) kept
+                (ends_passed entries c.loop-index.index c.args.small c.loop-index.ends.items c.loop-index.invariant.ends
                 (λ same. other_tests c.is_some.result c.args.small w.if-is_some-small.false (there ∙ same)));
             one_each = sym (ap length kept) ∙ c.loop-index.invariant.one_each;
           }
@@ -53,5 +72,6 @@ loop-index-preserved c =
 
 pub returns-clause-ends : goal.returns-clause-ends
 returns-clause-ends c =
-    let all : c.loop-index.index ≡ length c.args.entries.now = omega (arith, c.loop-index-test.false, c.loop-index.auto.index-end) in
+    let all : c.loop-index.index ≡ length c.args.entries.now =
+    omega (arith, c.loop-index-test.false, c.loop-index.auto.index-end) in
     subst (λ (k : ℕ). AreEnds c.args.entries.now k c.args.small c.loop-index.ends.items) all c.loop-index.invariant.ends

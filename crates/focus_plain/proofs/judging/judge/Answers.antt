@@ -21,12 +21,15 @@ loop-node-preserved c =
     let Right : Judged → Type 0 = λ j. IsClassification view j.node j.classification in
     elim c.if-eq.branch [
       | then-eq+in_ok-classification+in_ok-push w ↦
-          let fetched = sym c.fetch.ensures ∙ same_number c.fetch.result c.args.block (sym c.eq.ensures ∙ w.if-eq.true) in
+          let fetched = sym c.fetch.ensures ∙ same_number c.fetch.result c.args.block
+          (sym c.eq.ensures ∙ w.if-eq.true) in
           let found = w.in_ok-classification in
           let last : Judged = record { node = c.loop-node.node; classification = found.classification } in
-          let new_is : c.if-eq.judged.items ≡ judged ++ last ∷ [] = ap (λ (v : Vec Judged Global). v.items) w.judged-is ∙ w.in_ok-push.ensures.items in
+          let new_is : c.if-eq.judged.items ≡ judged ++ last ∷ [] =
+          ap (λ (v : Vec Judged Global). v.items) w.judged-is ∙ w.in_ok-push.ensures.items in
           record {
-            nodes = fetchers_more view.fetches c.args.block c.loop-node.node (nodes_of judged) (nodes_of c.if-eq.judged.items) c.loop-node.invariant.nodes fetched
+            nodes = fetchers_more view.fetches c.args.block c.loop-node.node (nodes_of judged)
+                (nodes_of c.if-eq.judged.items) c.loop-node.invariant.nodes fetched
                 (ap nodes_of new_is ∙ map-append (λ (j : Judged). j.node) judged (last ∷ []));
             classifications = subst (λ (js : List Judged). All Right js) (sym new_is)
                 (All-push Right judged last c.loop-node.invariant.classifications found.ensures);
@@ -35,8 +38,10 @@ loop-node-preserved c =
           let other = other_number c.fetch.result c.args.block (sym c.eq.ensures ∙ w.if-eq.false) in
           let kept : judged ≡ c.if-eq.judged.items = ap (λ (v : Vec Judged Global). v.items) (sym w.judged-is) in
           record {
-            nodes = subst (λ (js : List Judged). AreFetchersBelow view.fetches c.args.block (c.loop-node.node + 1) (nodes_of js)) kept
-                (fetchers_passed view.fetches c.args.block c.loop-node.node (nodes_of judged) c.loop-node.invariant.nodes (λ same. other (c.fetch.ensures ∙ same)));
+            nodes = subst (λ (js : List Judged). AreFetchersBelow view.fetches c.args.block (c.loop-node.node + 1)
+                (nodes_of js)) kept
+                (fetchers_passed view.fetches c.args.block c.loop-node.node (nodes_of judged)
+                c.loop-node.invariant.nodes (λ same. other (c.fetch.ensures ∙ same)));
             classifications = subst (λ (js : List Judged). All Right js) kept c.loop-node.invariant.classifications;
           }
     ]
@@ -46,6 +51,9 @@ unfolding nodes_of
 returns-clause-nodes c =
     let view = c.args.view.now in
     let is = c.blocks-blocks.ensures.view in
-    let count : length c.nodes.result.now ≡ length view.nodes = ap length (c.nodes.ensures.same ∙ c.graph.ensures.same) in
-    let all : length view.fetches ≡ c.loop-node.node = omega (arith, count, is.one_each, is.graph.few, c.loop-node-test.false, c.loop-node.auto.node-end) in
-    fetchers_all view.fetches c.args.block c.loop-node.node (nodes_of c.loop-node.judged.items) all c.loop-node.invariant.nodes
+    let count : length c.nodes.result.now ≡ length view.nodes =
+    ap length (c.nodes.ensures.same ∙ c.graph.ensures.same) in
+    let all : length view.fetches ≡ c.loop-node.node =
+    omega (arith, count, is.one_each, is.graph.few, c.loop-node-test.false, c.loop-node.auto.node-end) in
+    fetchers_all view.fetches c.args.block c.loop-node.node (nodes_of c.loop-node.judged.items) all
+    c.loop-node.invariant.nodes

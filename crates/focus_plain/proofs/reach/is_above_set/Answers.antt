@@ -8,8 +8,11 @@ pub returns : goal.returns
 returns c = λ passes.
     let small : List ℕ = get_or c.args.sets.now c.args.reached [] in
     let large : List ℕ = get_or c.args.sets.now c.args.place [] in
-    let small_is : c.items-numbers.result.now ≡ small = c.items-numbers.ensures.value ∙ get_or_read _ _ _ c.requires.reached c.index-sets-reached.is [] in
-    let large_is : c.items.result.now ≡ large = c.items.ensures.value ∙ get_or_read _ _ _ c.requires.place c.index-sets-place.is [] in
+    let small_is : c.items-numbers.result.now ≡ small =
+    c.items-numbers.ensures.value ∙ get_or_read _ _ _ c.requires.reached c.index-sets-reached.is [] in
+    let large_is : c.items.result.now ≡ large =
+    c.items.ensures.value ∙ get_or_read _ _ _ c.requires.place c.index-sets-place.is [] in
     let all = c.all_in.ensures passes in
     within_alone small large (λ x there.
-    subst (λ (s : List ℕ). Contains s x ⊎ (None ≡ Some x)) large_is (all x (subst (λ (s : List ℕ). Contains s x) (sym small_is) there)))
+    subst (λ (s : List ℕ). Contains s x ⊎ (None ≡ Some x)) large_is
+    (all x (subst (λ (s : List ℕ). Contains s x) (sym small_is) there)))

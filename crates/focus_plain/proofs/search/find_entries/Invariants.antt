@@ -7,7 +7,8 @@ abbrev pub invariant-loop-index : goal.invariant-loop-index
 invariant-loop-index l = record {
   search : IsSearch l.view l.block l.search;
   within : l.index ≤ length l.search.entries.items;
-  spread : IsSpread l.view l.block (trail_of l.search.entries.items) (seen_of l.search.sets.items l.search.entries.items) l.index;
+  spread : IsSpread l.view l.block (trail_of l.search.entries.items)
+      (seen_of l.search.sets.items l.search.entries.items) l.index;
 }
 
 abbrev pub decreases-loop-index : goal.decreases-loop-index

@@ -16,16 +16,20 @@ loop-younger-preserved c =
     let sets : List YoungerSets = c.args.sets.items in
     let younger : YoungerSets = c.in-Some.younger in
     let gives = c.into_iter-younger-iterator.ensures.into_iter_gives in
-    let yields = YieldsList-from_vec {s = c.into_iter-younger-iterator.result} sets gives.0 (gives.1 ∙ c.args.sets.ok.0) in
-    let turn = YieldsList-turn yields c.loop-younger.yielded c.loop-younger.younger-iterator c.loop-younger.yielded_by c.next.result c.next.new.self younger c.in-Some.is c.next.ensures.steps in
+    let yields = YieldsList-from_vec {s = c.into_iter-younger-iterator.result} sets gives.0
+    (gives.1 ∙ c.args.sets.ok.0) in
+    let turn = YieldsList-turn yields c.loop-younger.yielded c.loop-younger.younger-iterator c.loop-younger.yielded_by
+    c.next.result c.next.new.self younger c.in-Some.is c.next.ensures.steps in
     let at : slice_get sets c.loop-younger.node ≡ Some younger =
-    ap (slice_get sets) c.loop-younger.invariant.count ∙ slice_get-get_or sets (length c.loop-younger.yielded) younger turn.0 ∙ ap Some (sym turn.1) in
+    ap (slice_get sets) c.loop-younger.invariant.count
+    ∙ slice_get-get_or sets (length c.loop-younger.yielded) younger turn.0 ∙ ap Some (sym turn.1) in
     let exact = c.requires.exact c.loop-younger.node younger at in
     let last : PlainPlace = record { node = c.loop-younger.node; least = younger.least; most = younger.most } in
     let right : IsPlainPlace c.args.view.now c.args.block last = record { least = exact.least; most = exact.most } in
     record {
       count = ap (λ n. n + 1) c.loop-younger.invariant.count ∙ sym (length_push c.loop-younger.yielded younger);
-      kept = kept_more c.args.view.now c.args.block c.loop-younger.places.items c.keep.new.places.items last c.eq-fetches.result c.fetch.result
+      kept = kept_more c.args.view.now c.args.block c.loop-younger.places.items c.keep.new.places.items last
+          c.eq-fetches.result c.fetch.result
           c.in_ok-keep.ensures c.eq-fetches.ensures c.fetch.ensures c.loop-younger.invariant.kept right;
     }
 
@@ -33,7 +37,10 @@ pub returns-clause-nodes : goal.returns-clause-nodes
 returns-clause-nodes c =
     let sets : List YoungerSets = c.args.sets.items in
     let gives = c.into_iter-younger-iterator.ensures.into_iter_gives in
-    let yields = YieldsList-from_vec {s = c.into_iter-younger-iterator.result} sets gives.0 (gives.1 ∙ c.args.sets.ok.0) in
-    let end = YieldsList-end yields c.loop-younger.yielded c.loop-younger.younger-iterator c.loop-younger.yielded_by c.next.result c.next.new.self c.in-None.is c.next.ensures.steps in
-    let all : length c.args.view.now.fetches ≡ c.loop-younger.node = omega (arith, c.loop-younger.invariant.count, end.1, c.requires.one_each, c.requires.view.one_each) in
+    let yields = YieldsList-from_vec {s = c.into_iter-younger-iterator.result} sets gives.0
+    (gives.1 ∙ c.args.sets.ok.0) in
+    let end = YieldsList-end yields c.loop-younger.yielded c.loop-younger.younger-iterator c.loop-younger.yielded_by
+    c.next.result c.next.new.self c.in-None.is c.next.ensures.steps in
+    let all : length c.args.view.now.fetches ≡ c.loop-younger.node =
+    omega (arith, c.loop-younger.invariant.count, end.1, c.requires.one_each, c.requires.view.one_each) in
     fetchers_all c.args.view.now.fetches c.args.block c.loop-younger.node _ all c.loop-younger.invariant.kept.nodes

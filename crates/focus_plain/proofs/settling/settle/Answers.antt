@@ -9,9 +9,13 @@ use Rattle.focus_plain.proofs.settling.settle.Goals as goal
 pub returns-clause-alike : goal.returns-clause-alike
 returns-clause-alike c = λ k place fate place_at fate_at.
     let view = c.args.view.now in
-    all_alike view c.args.block (λ n earlier. c.view_laws.ensures.hits view n c.args.block earlier c.blocks-blocks.ensures.view)
+    all_alike view c.args.block (λ n earlier. c.view_laws.ensures.hits view n c.args.block earlier
+    c.blocks-blocks.ensures.view)
     c.in_ok-places.places.items c.in_ok-fates.fates.items c.in_ok-places.ensures.nodes
-    (subst (λ (b : ℕ). AreFetchers view.fetches b (map (λ fate. fate.node) c.in_ok-fates.fates.items)) c.in_ok-found.ensures.block c.in_ok-fates.ensures.nodes)
+    (subst (λ (b : ℕ). AreFetchers view.fetches b (map (λ fate. fate.node) c.in_ok-fates.fates.items))
+    c.in_ok-found.ensures.block c.in_ok-fates.ensures.nodes)
     k place fate place_at fate_at
-    (All-contains (IsPlainPlace view c.args.block) c.in_ok-places.places.items place c.in_ok-places.ensures.sets (has-found c.in_ok-places.places.items k place place_at))
-    (All-contains (IsFate view) c.in_ok-fates.fates.items fate c.in_ok-fates.ensures.ends (has-found c.in_ok-fates.fates.items k fate fate_at))
+    (All-contains (IsPlainPlace view c.args.block) c.in_ok-places.places.items place c.in_ok-places.ensures.sets
+    (has-found c.in_ok-places.places.items k place place_at))
+    (All-contains (IsFate view) c.in_ok-fates.fates.items fate c.in_ok-fates.ensures.ends
+    (has-found c.in_ok-fates.fates.items k fate fate_at))

@@ -8,8 +8,11 @@ pub returns : goal.returns
 returns c =
     let e = c.args.expanded.now in
     let P : List Node → Type 0 =
-    λ nodes. slice_get e.nodes c.args.node ≡ Some (slice_index_or nodes c.args.node (record { at = 0; first = None; second = None })) in
+    λ nodes. slice_get e.nodes c.args.node ≡ Some (slice_index_or nodes c.args.node
+    (record { at = 0; first = None; second = None })) in
     let nodes : c.nodes.result.now ≡ e.nodes = search rules in
-    let node : slice_get e.nodes c.args.node ≡ Some (slice_index_or c.nodes.result.now c.args.node (record { at = 0; first = None; second = None })) =
+    let node : slice_get e.nodes c.args.node ≡ Some (slice_index_or c.nodes.result.now c.args.node
+    (record { at = 0; first = None; second = None })) =
     subst P (sym nodes) (node_is e.nodes c.args.node _ c.requires.inside) in
-    line_is e c.args.node _ _ _ _ c.requires.inside c.requires.one_each node c.config-config.ensures.at c.config-config.ensures.depth (search rules)
+    line_is e c.args.node _ _ _ _ c.requires.inside c.requires.one_each node c.config-config.ensures.at
+    c.config-config.ensures.depth (search rules)

@@ -10,7 +10,8 @@ use Rattle.icache_top.proofs.report.send_report.Given as goal
 -- the lines before a place are sent or pending, no write has failed, and no count has changed
 abbrev pub invariant-loop-place : goal.invariant-loop-place
 invariant-loop-place g l = record {
-  lines : (front : List Line) × AreAllBefore (StandsAt l.contexts l.found.image.now l.found.expanded.now l.found.verdicts.now) l.place front
+  lines : (front : List Line) × AreAllBefore (StandsAt l.contexts l.found.image.now l.found.expanded.now
+      l.found.verdicts.now) l.place front
       × Pending (g.O.Sink.sent l.initial.out) (g.O.Sink.sent l.out) l.buffer.items (text_of front);
   faults : g.O.Sink.faults l.out ≡ g.O.Sink.faults l.initial.out;
   refusals : g.O.Sink.refusals l.out ≡ g.O.Sink.refusals l.initial.out;

@@ -13,7 +13,8 @@ use Rattle.icache_top.proofs.top.answer_file.Goals as goal
 
 pub returns-in_err-image-clause-told : goal.returns-in_err-image-clause-told
 returns-in_err-image-clause-told g c =
-    elf_told c.args.settings.now c.args.file.items (g.O.Sink.sent c.args.out.now) c.in_err-image.field-0.0 c.from_residual.result
+    elf_told c.args.settings.now c.args.file.items (g.O.Sink.sent c.args.out.now) c.in_err-image.field-0.0
+    c.from_residual.result
     c.in_err-image.ensures.fault c.from_residual.ensures.1
 
 abbrev Kept : Image → Type 0

@@ -7,7 +7,8 @@ use Rattle.icache_top.proofs.top.graph.Goals as goal
 
 pub returns-in_err-expanded-clause-told : goal.returns-in_err-expanded-clause-told
 returns-in_err-expanded-clause-told g c =
-    flow_told _ _ _ (g.O.Sink.sent c.args.out.now) c.in_err-expanded.field-0.0 c.from_residual.result c.in_err-expanded.ensures.refused
+    flow_told _ _ _ (g.O.Sink.sent c.args.out.now) c.in_err-expanded.field-0.0 c.from_residual.result
+    c.in_err-expanded.ensures.refused
     c.from_residual.ensures.1
 
 pub send_graph-requires : goal.send_graph-requires
@@ -16,12 +17,14 @@ send_graph-requires g c = sym (AllZip-long _ _ _ c.in_ok-expanded.ensures.graph.
 pub returns-in_err-send_graph-clause-told : goal.returns-in_err-send_graph-clause-told
 returns-in_err-send_graph-clause-told g c =
     sent_told _ _ _ _ _ _ c.in_err-send_graph.field-0.0 c.from_residual-in_err-send_graph.result
-    (graph_text c.args.image.now c.args.entry c.in_ok-expanded.expanded c.in_ok-expanded.ensures.accepted c.in_ok-expanded.ensures.graph)
+    (graph_text c.args.image.now c.args.entry c.in_ok-expanded.expanded c.in_ok-expanded.ensures.accepted
+    c.in_ok-expanded.ensures.graph)
     c.in_err-send_graph.ensures.part c.from_residual-in_err-send_graph.ensures.1
 
 pub returns-clause-told : goal.returns-clause-told
 returns-clause-told g c = (
   graph_text_of c.in_ok-expanded.expanded,
-  graph_text c.args.image.now c.args.entry c.in_ok-expanded.expanded c.in_ok-expanded.ensures.accepted c.in_ok-expanded.ensures.graph,
+  graph_text c.args.image.now c.args.entry c.in_ok-expanded.expanded c.in_ok-expanded.ensures.accepted
+      c.in_ok-expanded.ensures.graph,
   c.in_ok-send_graph.ensures.whole,
 )

@@ -35,6 +35,7 @@ pub trace-requires-clause-trail : goal.trace-requires-clause-trail
 unfolding nodes entries
 trace-requires-clause-trail g c =
     let made : c.expect-graph.result ≡ nodes =
-    subst (λ (o : Option (List Node)). IfSome o (λ graph. graph ≡ c.in_ok-from_slice.field-0.items)) c.expect-graph.ensures c.new.ensures.same
+    subst (λ (o : Option (List Node)). IfSome o (λ graph. graph ≡ c.in_ok-from_slice.field-0.items))
+    c.expect-graph.ensures c.new.ensures.same
     ∙ c.in_ok-from_slice.ensures.items in
     subst (λ (ns : List Node). IsTrail ns entries) (sym made) rounds

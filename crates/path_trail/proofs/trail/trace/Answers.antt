@@ -7,7 +7,8 @@ use Rattle.path_trail.proofs.trail.trace.Goals as goal
 -- the members, turned round twice, are the chain
 chain : goal.returns-clause-chain
 chain g c =
-    let twice : reverse c.reverse.new.self.items ≡ c.loop-next.path.items = ap reverse c.reverse.ensures.items ∙ reverse-reverse c.loop-next.path.items in
+    let twice : reverse c.reverse.new.self.items ≡ c.loop-next.path.items =
+    ap reverse c.reverse.ensures.items ∙ reverse-reverse c.loop-next.path.items in
     subst (λ (members : List ℕ). IsChain (g.T.Trail.entries c.args.trail.now) (Some c.args.entry) members) (sym twice)
     (front_all _ _ _ _ c.loop-next.invariant c.in_default.is)
 

@@ -8,4 +8,5 @@ loop-index-init c = none-noted c.args.nodes.now c.args.before.now c.requires.non
 pub loop-index-preserved : goal.loop-index-preserved
 loop-index-preserved c =
     let found = slice_get-get_or c.args.nodes.now c.loop-index.index _ c.loop-index-test.true in
-    noted-more _ _ _ _ _ _ found (note-made _ _ _ _ c.note.ensures) (note-made _ _ _ _ c.note-in-loop-index.ensures) c.loop-index.invariant
+    noted-more _ _ _ _ _ _ found (note-made _ _ _ _ c.note.ensures) (note-made _ _ _ _ c.note-in-loop-index.ensures)
+    c.loop-index.invariant

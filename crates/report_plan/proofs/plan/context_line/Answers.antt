@@ -14,23 +14,27 @@ pub returns-clause-valid : goal.returns-clause-valid
 returns-clause-valid c = λ valid.
     let frames = (numbered c.args.expanded.now.configurations c.args.node).frames in
     let verdict = c.index-verdicts-node.result in
-    let has = slice_get_read c.args.verdicts.now _ c.args.node verdict refl (omega (arith, c.requires.inside, c.requires.one_each)) c.index-verdicts-node.is in
+    let has = slice_get_read c.args.verdicts.now _ c.args.node verdict refl
+    (omega (arith, c.requires.inside, c.requires.one_each)) c.index-verdicts-node.is in
     let back = c.back_of.ensures ∙ ap (option_map (λ frame. frame.back)) c.top.ensures in
     let P : ℕ → Type 0 = λ depth. IsTrue (has_back_as_deep depth c.back_of.result) in
     let Q : Option ℕ → Type 0 = λ back. IsTrue (has_back_as_deep (length frames) back) in
     let R : Verdict → Type 0 = λ verdict. IsTrue (is_valid_verdict verdict) in
-    and_from (has_back_as_deep c.config-config.result.depth c.back_of.result) (is_valid_verdict c.in_ok-copy_verdict.field-0)
+    and_from (has_back_as_deep c.config-config.result.depth c.back_of.result)
+    (is_valid_verdict c.in_ok-copy_verdict.field-0)
     (subst P (sym c.config-config.ensures.depth) (subst Q (sym back) (back-as_deep frames)))
     (subst R (sym c.in_ok-copy_verdict.ensures) (valid-at c.args.verdicts.now c.args.node verdict valid has))
 
 pub returns-clause-line : goal.returns-clause-line
 returns-clause-line c =
-    let has = slice_get_read c.args.verdicts.now _ c.args.node c.index-verdicts-node.result refl (omega (arith, c.requires.inside, c.requires.one_each)) c.index-verdicts-node.is in (
+    let has = slice_get_read c.args.verdicts.now _ c.args.node c.index-verdicts-node.result refl
+    (omega (arith, c.requires.inside, c.requires.one_each)) c.index-verdicts-node.is in (
       refl,
       has ∙ ap Some (sym c.in_ok-copy_verdict.ensures),
       (
         numbered c.args.expanded.now.configurations c.args.node,
-        slice_get-get_or c.args.expanded.now.configurations c.args.node (start_of 0) (omega (arith, c.requires.inside, c.requires.configurations)),
+        slice_get-get_or c.args.expanded.now.configurations c.args.node (start_of 0)
+            (omega (arith, c.requires.inside, c.requires.configurations)),
         c.config-config.ensures.at,
         c.config-config.ensures.depth,
         c.back_of.ensures ∙ ap (option_map (λ frame. frame.back)) c.top.ensures,

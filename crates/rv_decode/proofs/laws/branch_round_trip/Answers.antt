@@ -20,4 +20,5 @@ pub returns-clause-kind : goal.returns-clause-kind
 returns-clause-kind c =
     let word = encode_branch c.args.funct3 c.args.rs1 c.args.rs2 c.args.offset in
     let offset : branch_offset word ≡ c.args.offset = grind arith in
-    kind_of-comparison word c.args.funct3 (omega arith) (omega arith) (omega arith) (omega arith) (omega arith) ∙ ap Branch offset
+    kind_of-comparison word c.args.funct3 (omega arith) (omega arith) (omega arith) (omega arith) (omega arith)
+    ∙ ap Branch offset

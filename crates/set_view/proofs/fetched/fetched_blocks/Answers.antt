@@ -20,13 +20,22 @@ returns-clause-fetched c =
         λ inside.
             let sorted = Contains-from_dedup _ _ block (rw is at inside) in
             let P : List ℕ → Type 0 = λ xs. Contains xs block in
-            listed-fetched nodes g c.args.set block (subst P listed (Contains-permutation _ _ block (IsPermutation-sym _ _ moved) sorted)),
+            listed-fetched nodes g c.args.set block (subst P listed
+            (Contains-permutation _ _ block (IsPermutation-sym _ _ moved) sorted)),
         λ fetched.
             let P : List ℕ → Type 0 = λ xs. Contains xs block in
-            rw is (Contains-dedup_nat _ block (Contains-permutation _ _ block moved (subst P (sym listed) (fetched-listed nodes g c.args.set block fetched)))),
+            rw is (Contains-dedup_nat _ block (Contains-permutation _ _ block moved
+            (subst P (sym listed) (fetched-listed nodes g c.args.set block fetched)))),
       );
     }
 
 pub returns-clause-few : goal.returns-clause-few
 returns-clause-few c =
-    omega (arith, length-blocks_of c.args.nodes.now c.args.geometry.now c.args.set, ap length c.in_ok-blocks.ensures, c.in_ok-sort.ensures.len, c.dedup.ensures.bound, c.in_ok-blocks.blocks.ok)
+    omega (
+      arith,
+      length-blocks_of c.args.nodes.now c.args.geometry.now c.args.set,
+      ap length c.in_ok-blocks.ensures,
+      c.in_ok-sort.ensures.len,
+      c.dedup.ensures.bound,
+      c.in_ok-blocks.blocks.ok,
+    )

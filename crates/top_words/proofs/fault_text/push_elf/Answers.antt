@@ -6,7 +6,8 @@ pub returns-in-Truncated-clause-text : goal.returns-in-Truncated-clause-text
 unfolding elf_text
 returns-in-Truncated-clause-text c =
     rw (c.in-Truncated.is, c.push_counted-in-Truncated.ensures.text, c.push_counted.ensures.text)
-    (append_assoc c.args.text.now (counted (codes "truncated: need ") c.in-Truncated.need) (counted (codes ", have ") c.in-Truncated.have))
+    (append_assoc c.args.text.now (counted (codes "truncated: need ") c.in-Truncated.need)
+    (counted (codes ", have ") c.in-Truncated.have))
 
 pub returns-in-NotClass32-clause-text : goal.returns-in-NotClass32-clause-text
 unfolding elf_text

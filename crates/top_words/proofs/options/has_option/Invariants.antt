@@ -6,7 +6,8 @@ use Rattle.top_words.proofs.options.has_option.Given as goal
 
 -- the arguments passed over don't have the option
 abbrev pub invariant-loop-left : goal.invariant-loop-left
-invariant-loop-left l = has_option (options_of l.command) l.name (bytes_of l.arguments) ≡ has_option (options_of l.command) l.name (bytes_of l.left)
+invariant-loop-left l = has_option (options_of l.command) l.name (bytes_of l.arguments)
+    ≡ has_option (options_of l.command) l.name (bytes_of l.left)
 
 abbrev pub decreases-loop-left : goal.decreases-loop-left
 decreases-loop-left l = length l.left

@@ -9,7 +9,8 @@ pub returns-then-not-is_new : goal.returns-then-not-is_new
 returns-then-not-is_new c =
     let kinds = options_of c.args.command in
     let rest = c.in-Some.rest.now in
-    let option : IsOption (options_of c.args.command) c.loop-left.left.now c.first-item.result c.as_str-name.result.now rest =
+    let option : IsOption (options_of c.args.command) c.loop-left.left.now c.first-item.result c.as_str-name.result.now
+    rest =
     record {
       some = c.in-len1-up.len_at_least;
       first_is = c.first-item.is;
@@ -24,7 +25,8 @@ pub loop-left-preserved : goal.loop-left-preserved
 loop-left-preserved c =
     let kinds = options_of c.args.command in
     let rest = c.in-Some.rest.now in
-    let option : IsOption (options_of c.args.command) c.loop-left.left.now c.first-item.result c.as_str-name.result.now rest =
+    let option : IsOption (options_of c.args.command) c.loop-left.left.now c.first-item.result c.as_str-name.result.now
+    rest =
     record {
       some = c.in-len1-up.len_at_least;
       first_is = c.first-item.is;

@@ -29,7 +29,10 @@ loop-left-preserved c =
     } in
     let other : (bytes_eq word name && not (is_flag (options_of c.args.command) word)) ≡ false =
     elim c.else-eq.branch [
-      | else-eq-via-then-eq+else-not-is_flag w ↦ and_right (bytes_eq word name) (not (is_flag (options_of c.args.command) word)) (search rules)
-      | else-eq-via-else-eq w ↦ and_left (bytes_eq word name) (not (is_flag (options_of c.args.command) word)) (search rules)
+      | else-eq-via-then-eq+else-not-is_flag w ↦ and_right (bytes_eq word name)
+          (not (is_flag (options_of c.args.command) word)) (search rules)
+      | else-eq-via-else-eq w ↦ and_left (bytes_eq word name) (not (is_flag (options_of c.args.command) word))
+          (search rules)
     ] in
-    c.loop-left.invariant ∙ value_of-option (options_of c.args.command) name c.loop-left.left.now c.first-item.result word rest option other
+    c.loop-left.invariant ∙ value_of-option (options_of c.args.command) name c.loop-left.left.now c.first-item.result
+    word rest option other

@@ -6,7 +6,8 @@ use Rattle.top_words.proofs.options.value_of.Given as goal
 
 -- the arguments passed over don't have the name
 abbrev pub invariant-loop-left : goal.invariant-loop-left
-invariant-loop-left l = value_of (options_of l.command) l.name (bytes_of l.arguments) ≡ value_of (options_of l.command) l.name (bytes_of l.left)
+invariant-loop-left l = value_of (options_of l.command) l.name (bytes_of l.arguments)
+    ≡ value_of (options_of l.command) l.name (bytes_of l.left)
 
 abbrev pub decreases-loop-left : goal.decreases-loop-left
 decreases-loop-left l = length l.left

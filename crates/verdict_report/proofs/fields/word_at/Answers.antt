@@ -7,11 +7,14 @@ use Rattle.verdict_report.proofs.fields.word_at.Goals as goal
 
 pub returns-in_err-at : goal.returns-in_err-at
 returns-in_err-at c =
-    let found = position_from_yields_List (is_end c.args.end) _ _ c.position.result c.position.ensures.ran (YieldsList-from_slice _ c.iter.ensures.rest) (λ x b q k. search (rules, tests)) in
-    let none : word_at c.args.end c.args.text.now ≡ None = no_word c.args.end c.args.text.now (sym found ∙ c.in_err-at.was) in
+    let found = position_from_yields_List (is_end c.args.end) _ _ c.position.result c.position.ensures.ran
+    (YieldsList-from_slice _ c.iter.ensures.rest) (λ x b q k. search (rules, tests)) in
+    let none : word_at c.args.end c.args.text.now ≡ None =
+    no_word c.args.end c.args.text.now (sym found ∙ c.in_err-at.was) in
     rw (c.from_residual.ensures, none) (search rules)
 
 pub returns : goal.returns
 returns c =
-    let found = position_from_yields_List (is_end c.args.end) _ _ c.position.result c.position.ensures.ran (YieldsList-from_slice _ c.iter.ensures.rest) (λ x b q k. search (rules, tests)) in
+    let found = position_from_yields_List (is_end c.args.end) _ _ c.position.result c.position.ensures.ran
+    (YieldsList-from_slice _ c.iter.ensures.rest) (λ x b q k. search (rules, tests)) in
     word_found c.args.end c.args.text.now c.in_ok-at.at (sym found ∙ c.in_ok-at.was)

@@ -75,6 +75,12 @@ returns-clause-first_fault c = inr (inl (
   [],
   at 0x10004,
   at 0x10008 ∷ [],
-  record { entry_is_good = refl; are_layers = (start_layer steps, (both_layer, tt)); faultless = (refl, tt); few = omega arith },
+  record {
+    entry_is_good = refl;
+    are_layers = (start_layer steps, (both_layer, tt));
+    faultless = (refl, tt);
+    few = omega
+        arith;
+  },
   refl,
 ))

@@ -14,4 +14,8 @@ returns-clause-path c = ((1, omega arith, refl), ((0, omega arith, refl), refl))
 
 pub returns-clause-named : goal.returns-clause-named
 unfolding successors next_at word_at kind_of pair_of
-returns-clause-named c = record { steps = refl; choices = ([], codes "t", ([], [], refl, refl, refl), inr (refl, refl), refl) }
+returns-clause-named c = record {
+  steps = refl;
+  choices =
+      ([], codes "t", ([], [], refl, refl, refl), inr (refl, refl), refl);
+}

@@ -4,7 +4,9 @@ use Rattle.cache_geom.specs.LruSet.{LruSet}
 use Rattle.cache_geom.proofs.Fetch.{IsStep, step-blocks, step-sound, is_in-found}
 use Rattle.cache_geom.proofs.lru_set.LruSet.touch.Goals as goal
 
-the_step : (c : goal.After-is_some) → IsStep c.self.inside.slots c.put_first.new.slots c.self.inside.len c.self.inside.ways c.args.block c.min-place.result c.place_of-found.result
+the_step : (c : goal.After-is_some)
+    → IsStep c.self.inside.slots c.put_first.new.slots c.self.inside.len c.self.inside.ways c.args.block
+    c.min-place.result c.place_of-found.result
 the_step c =
     let shown : c.blocks-2.result.now ≡ take c.self.inside.len c.self.inside.slots =
     c.blocks-2.ensures.value ∙ ap (λ (s : LruSet). s.blocks) (sym c.self.view_is) in

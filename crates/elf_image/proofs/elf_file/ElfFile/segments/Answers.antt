@@ -9,17 +9,21 @@ pub loop-index-preserved-in-Continue-1 : goal.loop-index-preserved-in-Continue-1
 loop-index-preserved-in-Continue-1 c =
     let file = c.args.self.now in
     let index = c.loop-index.index in
-    let count : c.self.inside.header.e_phnum ≡ e_phnum file = ap (λ (h : Header). h.e_phnum) c.self.invariant ∙ ap e_phnum c.self.view_is in
+    let count : c.self.inside.header.e_phnum ≡ e_phnum file =
+    ap (λ (h : Header). h.e_phnum) c.self.invariant ∙ ap e_phnum c.self.view_is in
     let within : index ≤ e_phnum file = omega arith in
     let is : is_executable (header file (index - 1)) ≡ true = cc in
-    let same : placed c.segment_of.result c.loop-index.segments.items ≡ placed (segment_of (header file (index - 1))) (in_order (segments_from file index (e_phnum file - index))) = cc in
+    let same : placed c.segment_of.result c.loop-index.segments.items
+    ≡ placed (segment_of (header file (index - 1))) (in_order (segments_from file index (e_phnum file - index))) =
+    cc in
     c.in_ok-put.ensures ∙ same ∙ sym (segments_more file index (e_phnum file) c.loop-index-test.true within is)
 
 pub loop-index-preserved : goal.loop-index-preserved
 loop-index-preserved c =
     let file = c.args.self.now in
     let index = c.loop-index.index in
-    let count : c.self.inside.header.e_phnum ≡ e_phnum file = ap (λ (h : Header). h.e_phnum) c.self.invariant ∙ ap e_phnum c.self.view_is in
+    let count : c.self.inside.header.e_phnum ≡ e_phnum file =
+    ap (λ (h : Header). h.e_phnum) c.self.invariant ∙ ap e_phnum c.self.view_is in
     let within : index ≤ e_phnum file = omega arith in
     let is : is_executable (header file (index - 1)) ≡ false = cc in
     c.loop-index.invariant ∙ sym (segments_same file index (e_phnum file) c.loop-index-test.true within is)

@@ -11,7 +11,8 @@ use Rattle.elf_image.proofs.image.Image.word_from.Goals as goal
 pub loop-segment-preserved : goal.loop-segment-preserved
 loop-segment-preserved c =
     let d : Segment = record { at = 0; size = 0; offset = 0 } in
-    All-more (λ s. IsNextIn s c.args.p None) _ c.loop-segment.segment-index d c.loop-segment-test.true c.loop-segment.invariant c.in_default.ensures
+    All-more (λ s. IsNextIn s c.args.p None) _ c.loop-segment.segment-index d c.loop-segment-test.true
+    c.loop-segment.invariant c.in_default.ensures
 
 pub returns-in-Some : goal.returns-in-Some
 returns-in-Some c =
@@ -21,9 +22,11 @@ returns-in-Some c =
     let P : List Segment → Type 0 = λ l. AllWithin (λ s. s.at + s.size ≤ c.args.p) l 0 first in
     let behind = take_rest c.deref-2.result.now first ∙ ap (λ l. drop first l) c.deref-2.ensures.value in
     let found = next_found xs _ c.args.p first c.loop-segment.segment-index c.in-Some.word d c.self.invariant.rising
-    (subst P c.deref.ensures.value c.ended_by-first.ensures.ended) behind c.loop-segment-test.true c.loop-segment.invariant c.in-Some.ensures in
+    (subst P c.deref.ensures.value c.ended_by-first.ensures.ended) behind c.loop-segment-test.true
+    c.loop-segment.invariant c.in-Some.ensures in
     let Q : List Segment → Type 0 = λ l. IsNextAmong l c.args.p (Some c.in-Some.word) in
-    next_text c.args.self.now c.args.p (Some c.in-Some.word) (subst Q (ap (λ (i : Image). i.segments) c.self.view_is) found)
+    next_text c.args.self.now c.args.p (Some c.in-Some.word)
+    (subst Q (ap (λ (i : Image). i.segments) c.self.view_is) found)
 
 pub returns : goal.returns
 returns c =
@@ -32,6 +35,7 @@ returns c =
     let P : List Segment → Type 0 = λ l. AllWithin (λ s. s.at + s.size ≤ c.args.p) l 0 first in
     let behind = take_rest c.deref-2.result.now first ∙ ap (λ l. drop first l) c.deref-2.ensures.value in
     let nowhere = next_nowhere xs _ c.args.p first c.loop-segment.segment-index
-    (subst P c.deref.ensures.value c.ended_by-first.ensures.ended) behind c.loop-segment-test.false c.loop-segment.invariant in
+    (subst P c.deref.ensures.value c.ended_by-first.ensures.ended) behind c.loop-segment-test.false
+    c.loop-segment.invariant in
     let Q : List Segment → Type 0 = λ l. IsNextAmong l c.args.p None in
     next_text c.args.self.now c.args.p None (subst Q (ap (λ (i : Image). i.segments) c.self.view_is) nowhere)

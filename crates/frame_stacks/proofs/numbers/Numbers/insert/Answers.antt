@@ -14,5 +14,6 @@ returns-clause-ok c =
     let updates = subst UpdatesAt c.cell_numbers.ensures c.in_ok-insert.ensures.updates in
     record {
       given = updates.1;
-      others = λ other. other_cell c.args.cell other _ _ (Some c.args.number) (updates.0 (other.below ∷ frame_numbers other.frame));
+      others = λ other. other_cell c.args.cell other _ _ (Some c.args.number)
+          (updates.0 (other.below ∷ frame_numbers other.frame));
     }

@@ -10,9 +10,11 @@ IsMadeBy stack cell cells = frames_of cells stack ≡ frames_of cells cell.below
 pub loop-left-preserved-then-left-right : goal.loop-left-preserved-then-left-right
 loop-left-preserved-then-left-right c =
     let now = c.loop-left.invariant in
-    let made = subst (IsMadeBy c.loop-left.left c.cell-left.result) c.cells-cells.ensures.same c.cell-left.ensures.frames in
+    let made = subst (IsMadeBy c.loop-left.left c.cell-left.result) c.cells-cells.ensures.same
+    c.cell-left.ensures.frames in
     record {
-      first = goes_further c.args.self.now c.args.a c.loop-left.left c.loop-left.one c.cell-left.result now.first (omega arith) c.cell-left.ensures.below made;
+      first = goes_further c.args.self.now c.args.a c.loop-left.left c.loop-left.one c.cell-left.result now.first
+          (omega arith) c.cell-left.ensures.below made;
       second = now.second;
       one_above = λ _. c.if-left-right.true;
       other_above = λ some. omega (arith, now.other_above some);
@@ -22,10 +24,12 @@ loop-left-preserved-then-left-right c =
 pub loop-left-preserved : goal.loop-left-preserved
 loop-left-preserved c =
     let now = c.loop-left.invariant in
-    let made = subst (IsMadeBy c.loop-left.right c.cell-right.result) c.cells-cells.ensures.same c.cell-right.ensures.frames in
+    let made = subst (IsMadeBy c.loop-left.right c.cell-right.result) c.cells-cells.ensures.same
+    c.cell-right.ensures.frames in
     record {
       first = now.first;
-      second = goes_further c.args.self.now c.args.b c.loop-left.right c.loop-left.other c.cell-right.result now.second (omega arith) c.cell-right.ensures.below made;
+      second = goes_further c.args.self.now c.args.b c.loop-left.right c.loop-left.other c.cell-right.result now.second
+          (omega arith) c.cell-right.ensures.below made;
       one_above = λ some. omega (arith, now.one_above some);
       other_above = λ _. omega arith;
       apart = λ some same. omega (arith, now.one_above some);

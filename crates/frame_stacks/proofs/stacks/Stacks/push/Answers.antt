@@ -26,23 +26,28 @@ pub invariant_of-self-in-Err : goal.invariant_of-self-in-Err
 invariant_of-self-in-Err c =
     let back : c.self.inside.cells.items ≡ c.pop.new.self.items = grind (arith, common_steps) in
     let Numbered : List StackCell → Type 0 = λ cells. AreNumbered cells c.insert.new.self in
-    subst Numbered back (numbered_same c.self.inside.cells.items c.self.inside.numbers c.insert.new.self c.self.invariant c.in-Err.ensures.err)
+    subst Numbered back (numbered_same c.self.inside.cells.items c.self.inside.numbers c.insert.new.self
+    c.self.invariant c.in-Err.ensures.err)
 
 pub invariant_of-self-in_default-insert : goal.invariant_of-self-in_default-insert
 invariant_of-self-in_default-insert c =
     let cells = c.self.inside.cells.items in
     let cell : StackCell = record { below = c.args.stack; frame = c.args.frame } in
-    let number : c.len-number.result ≡ length cells + 1 = omega (arith, ap length c.in_ok-push.ensures.items, length_push cells cell) in
+    let number : c.len-number.result ≡ length cells + 1 =
+    omega (arith, ap length c.in_ok-push.ensures.items, length_push cells cell) in
     let GivesAt : ℕ → Type 0 = λ n. Gives c.self.inside.numbers c.insert.new.self cell n in
     let Numbered : List StackCell → Type 0 = λ all. AreNumbered all c.insert.new.self in
-    let kept = numbered_push cells c.self.inside.numbers c.insert.new.self cell c.self.invariant (sym c.get.ensures ∙ c.in_default.is) (omega (arith, ap length c.self.view_is)) (subst GivesAt number c.in_default-insert.ensures.ok) in
+    let kept = numbered_push cells c.self.inside.numbers c.insert.new.self cell c.self.invariant
+    (sym c.get.ensures ∙ c.in_default.is) (omega (arith, ap length c.self.view_is))
+    (subst GivesAt number c.in_default-insert.ensures.ok) in
     subst Numbered (sym c.in_ok-push.ensures.items) kept
 
 pub returns-clause-frames : goal.returns-clause-frames
 returns-clause-frames c =
     let cells = c.self.inside.cells.items in
     let cell : StackCell = record { below = c.args.stack; frame = c.args.frame } in
-    let number : c.len-number.result ≡ length cells + 1 = omega (arith, ap length c.in_ok-push.ensures.items, length_push cells cell) in
+    let number : c.len-number.result ≡ length cells + 1 =
+    omega (arith, ap length c.in_ok-push.ensures.items, length_push cells cell) in
     ap (frames_of c.push.new.self.items) number
     ∙ ap (λ all. frames_of all (length cells + 1)) c.in_ok-push.ensures.items
     ∙ frames_of-push_last cells cell (omega (arith, ap length c.self.view_is))
