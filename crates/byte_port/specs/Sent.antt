@@ -1,24 +1,30 @@
--- A text that went to a sink, whole or up to where the sink ended it.
-use Rattle.std.specs.Prelude.{ℕ, List, Option, Result, OnOk, OnErr}
+-- A text that went to a sink, whole or up to where the sink ended it, in the words of any sink.
+use Rattle.std.specs.Prelude.{ℕ, List, Result, OnOk, OnErr}
 use Rattle.std.specs.Io.KnownBytes.{Appends}
 use Rattle.byte_port.specs.Calls.{SendsBy}
 use Rattle.byte_port.specs.Count.{CountsFaults, CountsRefusals}
 use Rattle.byte_port.specs.Stream.{SendsPrefix}
+use Rattle.byte_port.specs.declared.Sink.{Ghosts}
 use Rattle.byte_port.specs.declared.SinkFault.{SinkFault}
 
--- sending the text ended with this answer: the whole of it went over, or a prefix, and then the one write that failed or
--- was refused, which is counted
-pub record IsSent {P : Type 0} (sent : P → Option (List ℕ)) (faults refusals : P → ℕ)
-    (writes : P → Result ℕ SinkFault → P → Type 0) (text : List ℕ) (answer : Result (Unit {0}) SinkFault)
-    (old new : P) : Type 0 where
-  pub whole : OnOk answer (Appends (sent old) (sent new) text)
-  pub part : OnErr answer (SendsPrefix (sent old) (sent new) text)
-  pub faults_counted : CountsFaults answer (faults old) (faults new)
-  pub refusals_counted : CountsRefusals answer (refusals old) (refusals new)
-  pub calls : SendsBy writes answer old new
+module _ {O : Type 0} (g : Ghosts O) where
+  -- the text was sent
+  abbrev pub Sends : O → O → List ℕ → Type 0
+  Sends old new text = Appends (g.sent old) (g.sent new) text
 
--- the text was sent, as much of it as the sink took
-abbrev pub Reports : {P : Type 0} → (P → Option (List ℕ)) → (P → ℕ) → (P → ℕ) → (P → Result ℕ SinkFault → P → Type 0)
-    → List ℕ → P → P → Type 0
-Reports sent faults refusals writes text old new =
-    (answer : Result (Unit {0}) SinkFault) × IsSent sent faults refusals writes text answer old new
+  -- a prefix of the text was sent
+  abbrev pub SendsPrefixOf : O → O → List ℕ → Type 0
+  SendsPrefixOf old new text = SendsPrefix (g.sent old) (g.sent new) text
+
+  -- sending the text ended with this answer: the whole of it went over, or a prefix, and then the one write that failed
+  -- or was refused, which is counted
+  pub record IsSent (text : List ℕ) (answer : Result (Unit {0}) SinkFault) (old new : O) : Type 0 where
+    pub whole : OnOk answer (Sends old new text)
+    pub part : OnErr answer (SendsPrefixOf old new text)
+    pub faults_counted : CountsFaults answer (g.faults old) (g.faults new)
+    pub refusals_counted : CountsRefusals answer (g.refusals old) (g.refusals new)
+    pub calls : SendsBy g.writes answer old new
+
+  -- the text was sent, as much of it as the sink took
+  abbrev pub Reports : List ℕ → O → O → Type 0
+  Reports text old new = (answer : Result (Unit {0}) SinkFault) × IsSent text answer old new

@@ -1,9 +1,10 @@
 //! The loops over a source and over a sink.
 ghost use Rattle.std.specs.Prelude.{◌≡◌, ◌<◌, ◌≤◌, ◌+◌, length, IfOk, IfSome, OnOk, OnErr, IsErrOf};
-ghost use Rattle.std.specs.Io.KnownBytes.{Appends, Consumes, IsAtEnd};
+ghost use Rattle.std.specs.Io.KnownBytes.{Consumes, IsAtEnd};
 ghost use Rattle.byte_port.specs.Count.{CountsFaults, CountsRefusals};
 ghost use Rattle.byte_port.specs.Calls.{ReadsBy, SendsBy};
-ghost use Rattle.byte_port.specs.Stream.{SendsPrefix, CountsStop, Takes, TakesAtMost};
+ghost use Rattle.byte_port.specs.Sent.{Sends, SendsPrefixOf};
+ghost use Rattle.byte_port.specs.Stream.{CountsStop, Takes, TakesAtMost};
 
 use crate::{Failed, Sink, SinkFault, Source};
 use std::alloc::{AllocError, Global};
@@ -76,8 +77,8 @@ pub fn read_all<S: Source>(alloc: Global, source: &mut S, limit: usize) -> Resul
 
 /// Sends a whole text, piece after piece. The first error ends it, and the sink then has a prefix of the text.
 pub fn send_all<O: Sink>(out: &mut O, text: &[u8]) -> Result<(), SinkFault>
-    ensures whole { OnOk result (Appends (O.sent out.old) (O.sent out.new) text.now) }
-    ensures part { OnErr result (SendsPrefix (O.sent out.old) (O.sent out.new) text.now) }
+    ensures whole { OnOk result (Sends O.Sink out.old out.new text.now) }
+    ensures part { OnErr result (SendsPrefixOf O.Sink out.old out.new text.now) }
     ensures faults { CountsFaults result (O.faults out.old) (O.faults out.new) }
     ensures refusals { CountsRefusals result (O.refusals out.old) (O.refusals out.new) }
 

@@ -47,7 +47,7 @@ fn ended<R: Threads + Sync, S: Source, O: Sink, E: Sink>(
         × ReadsFor S.reads S.left S.faults status source.old source.new
         × WritesFor O.writes status out.old out.new
         × (status ≡ Status.Done → err.new ≡ err.old)
-        × (status ≢ Status.Done → Reports E.sent E.faults E.refusals E.writes (fault_text status) err.old err.new) }
+        × (status ≢ Status.Done → Reports E.Sink (fault_text status) err.old err.new) }
 {
     let outcome = run(rt, alloc, arguments, source, out, err, &IdleGate);
     exit_code(&outcome.status)
@@ -56,7 +56,7 @@ fn ended<R: Threads + Sync, S: Source, O: Sink, E: Sink>(
 /// Ends without a run, and says why.
 fn refused<E: Sink>(err: &mut E, status: &Status) -> ExitCode
     ensures code { exit_status result ≡ code_of status.now }
-    ensures reported { Reports E.sent E.faults E.refusals E.writes (fault_text status.now) err.old err.new }
+    ensures reported { Reports E.Sink (fault_text status.now) err.old err.new }
 {
     explain(err, status);
     exit_code(status)

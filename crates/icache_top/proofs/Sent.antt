@@ -40,7 +40,7 @@ module _ (At : ℕ → Option (Line × Option ℕ) → Type 0) where
   pub whole : (front : List Line) → AreAllBefore At None front → AreAllFrom At (Some 0) front
   whole front before = subst (AreAllFrom At (Some 0)) (append-nil front) (before [] refl)
 
-  -- the line at a place went to the buffer, or none was left
+  -- the line at a cursor went to the buffer, or none was left
   pub sent_next : (a b c : Option (List ℕ)) (buffer left : List ℕ) (from : ℕ) (next : Option ℕ)
       → (front : List Line) × AreAllBefore At (Some from) front × Pending a b buffer (text_of front)
       → SendsNext At from (Pending b c left) buffer next
@@ -59,18 +59,18 @@ module _ (contexts : Bool) (image : Image) (expanded : Expansion) (verdicts : Li
   abbrev At : ℕ → Option (Line × Option ℕ) → Type 0
   At = StandsAt contexts image expanded verdicts
 
-  -- there are lines from each place on
-  there : (place : Option ℕ) → (lines : List Line) × AreAllFrom At place lines
-  there place =
+  -- there are lines from each cursor on
+  there : (cursor : Option ℕ) → (lines : List Line) × AreAllFrom At cursor lines
+  there cursor =
       let (entry, g, findings) = found in
-      rest image entry g expanded.configurations expanded.nodes verdicts findings contexts place
+      rest image entry g expanded.configurations expanded.nodes verdicts findings contexts cursor
 
-  -- a prefix of what stands before a place was sent
-  part_before : (a c : Option (List ℕ)) (front : List Line) (place : Option ℕ) → AreAllBefore At place front
+  -- a prefix of what stands before a cursor was sent
+  part_before : (a c : Option (List ℕ)) (front : List Line) (cursor : Option ℕ) → AreAllBefore At cursor front
       → SendsPrefix a c (text_of front)
       → SendsAll contexts image expanded verdicts (SendsPrefix a c)
-  part_before a c front place before part =
-      let (lines, all) = there place in (
+  part_before a c front cursor before part =
+      let (lines, all) = there cursor in (
         front ++ lines,
         before lines all,
         subst (SendsPrefix a c) (sym (text_of-append front lines))

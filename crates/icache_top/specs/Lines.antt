@@ -1,20 +1,23 @@
 -- The lines of a report as they are sent, one after another.
 use Rattle.std.specs.Prelude.{◌≡◌, ◌⊎◌, ℕ, ◌-◌, ◌^◌, Bool, List, ◌++◌, Option, Some, None}
+use Rattle.byte_port.specs.declared.Sink.{Ghosts}
 use Rattle.elf_spec.specs.Image.{Image}
 use Rattle.cache_spec.specs.Geometry.{Geometry}
 use Rattle.call_expand.specs.Expansion.{Expansion}
 use Rattle.report_spec.specs.declared.line.Line.{Line}
 use Rattle.report_spec.specs.declared.line.Verdict.{Verdict}
 use Rattle.report_spec.specs.Text.{text_of, line_text}
+use Rattle.line_sender.specs.Pending.{IsPending}
 use Rattle.report_lines.specs.Findings.{AreFindings}
-use Rattle.report_lines.specs.Lines.{Stands, AreAllFrom}
+use Rattle.icache_top.specs.declared.report.Findings.{Findings}
+use Rattle.report_lines.specs.Lines.{Stands, AreAllBefore, AreAllFrom}
 
 -- the verdicts are right of an expanded program
 abbrev pub AreFound : Image → Expansion → List Verdict → Type 0
 AreFound image expanded verdicts =
     (entry : ℕ) × (g : Geometry) × AreFindings image entry g expanded.configurations expanded.nodes verdicts
 
--- which line stands at a place
+-- which line stands at a cursor
 abbrev pub StandsAt : Bool → Image → Expansion → List Verdict → ℕ → Option (Line × Option ℕ) → Type 0
 StandsAt contexts image expanded verdicts = Stands contexts image expanded.configurations expanded.nodes verdicts
 
@@ -23,13 +26,30 @@ abbrev pub SendsAll : Bool → Image → Expansion → List Verdict → (List �
 SendsAll contexts image expanded verdicts Sent =
     (lines : List Line) × AreAllFrom (StandsAt contexts image expanded verdicts) (Some 0) lines × Sent (text_of lines)
 
--- the line at a place and the place after it, and what was sent is the buffer and its text; or no line is left
+-- the verdicts of what was found are right
+abbrev pub HaveFound : Findings → Type 0
+HaveFound found = AreFound found.image.now found.expanded.now found.verdicts.now
+
+-- which line stands at a cursor, by what was found
+abbrev pub StandsIn : Bool → Findings → ℕ → Option (Line × Option ℕ) → Type 0
+StandsIn contexts found = StandsAt contexts found.image.now found.expanded.now found.verdicts.now
+
+-- the lines are all those of what was found, and their text was sent
+abbrev pub SendsReport : Bool → Findings → (List ℕ → Type 0) → Type 0
+SendsReport contexts found = SendsAll contexts found.image.now found.expanded.now found.verdicts.now
+
+-- since the sink was as it was then, the lines before a cursor were sent, or stand in the buffer
+abbrev pub SentBefore : {O : Type 0} → Ghosts O → Bool → Findings → O → O → List ℕ → Option ℕ → Type 0
+SentBefore g contexts found begun now buffer cursor =
+    (lines : List Line) × AreAllBefore (StandsIn contexts found) cursor lines × IsPending g begun now buffer (text_of lines)
+
+-- the line at a cursor and the cursor after it, and what was sent is the buffer and its text; or no line is left
 abbrev pub SendsNext : (ℕ → Option (Line × Option ℕ) → Type 0) → ℕ → (List ℕ → Type 0) → List ℕ → Option ℕ → Type 0
 SendsNext At from Sent buffer next =
     (At from None × (next ≡ None) × Sent buffer)
     ⊎ ((line : Line) × At from (Some (line, next)) × Sent (buffer ++ line_text line))
 
--- a prefix of the buffer and the text of a line at the place was sent, or nothing
+-- a prefix of the buffer and the text of a line at the cursor was sent, or nothing
 abbrev pub SendsPart : (ℕ → Option (Line × Option ℕ) → Type 0) → ℕ → (List ℕ → Type 0) → List ℕ → Type 0
 SendsPart At from Sent buffer =
     Sent buffer ⊎ ((line : Line) × (next : Option ℕ) × At from (Some (line, next)) × Sent (buffer ++ line_text line))
@@ -37,4 +57,4 @@ SendsPart At from Sent buffer =
 -- what is left to go through
 abbrev pub left_from : Option ℕ → ℕ
 left_from None = 0
-left_from (Some place) = 2 ^ 32 - place
+left_from (Some cursor) = 2 ^ 32 - cursor

@@ -1,8 +1,7 @@
 // The text of a program's graph, line by line.
 ghost use Rattle.std.specs.Prelude.{◌≡◌, ◌<◌, length, slice_get, Some, OnOk, OnErr};
-ghost use Rattle.std.specs.Io.KnownBytes.{Appends};
 ghost use Rattle.byte_port.specs.Count.{CountsFaults};
-ghost use Rattle.byte_port.specs.Stream.{SendsPrefix};
+ghost use Rattle.byte_port.specs.Sent.{Sends, SendsPrefixOf};
 ghost use Rattle.line_sender.specs.Pending.{MayRefuse, WritesBy};
 ghost use Rattle.icache_top.specs.GraphLines.{graph_lines_of, graph_text_of};
 
@@ -19,8 +18,8 @@ pub(crate) fn send_graph<O: Sink>(
     expanded: &Expanded,
 ) -> Result<(), SinkFault>
     requires { length expanded.now.configurations ≡ length expanded.now.nodes }
-    ensures whole { OnOk result (Appends (O.sent out.old) (O.sent out.new) (graph_text_of expanded.now)) }
-    ensures part { OnErr result (SendsPrefix (O.sent out.old) (O.sent out.new) (graph_text_of expanded.now)) }
+    ensures whole { OnOk result (Sends O.Sink out.old out.new (graph_text_of expanded.now)) }
+    ensures part { OnErr result (SendsPrefixOf O.Sink out.old out.new (graph_text_of expanded.now)) }
     ensures faults { CountsFaults result (O.faults out.old) (O.faults out.new) }
     ensures refusals { MayRefuse result (O.refusals out.old) (O.refusals out.new) }
     ensures writes { WritesBy O.writes result out.old out.new }

@@ -1,11 +1,10 @@
 // The report of a program, line by line.
 ghost use Rattle.std.specs.Prelude.{◌<◌, Some, IfOk, OnOk, OnErr};
 ghost use Rattle.byte_port.specs.Count.{CountsFaults};
-ghost use Rattle.byte_port.specs.Stream.{SendsPrefix};
-ghost use Rattle.std.specs.Io.KnownBytes.{Appends};
-ghost use Rattle.line_sender.specs.Pending.{MayRefuse, Pending, WritesBy};
+ghost use Rattle.byte_port.specs.Sent.{Sends, SendsPrefixOf};
+ghost use Rattle.line_sender.specs.Pending.{IsPending, MayRefuse, WritesBy};
 ghost use Rattle.report_plan.specs.Kept.{IsPlanOf};
-ghost use Rattle.icache_top.specs.Lines.{AreFound, StandsAt, SendsAll, SendsNext, SendsPart, left_from};
+ghost use Rattle.icache_top.specs.Lines.{HaveFound, SendsNext, SendsPart, SendsReport, StandsIn, left_from};
 
 use byte_port::{Sink, SinkFault};
 use call_expand::Expanded;
@@ -31,25 +30,23 @@ pub(crate) fn send_report<O: Sink>(
     found: &Findings,
     contexts: bool,
 ) -> Result<(), SinkFault>
-    requires { AreFound found.now.image.now found.now.expanded.now found.now.verdicts.now }
-    ensures whole { OnOk result (SendsAll contexts found.now.image.now found.now.expanded.now found.now.verdicts.now
-        (Appends (O.sent out.old) (O.sent out.new))) }
-    ensures part { OnErr result (SendsAll contexts found.now.image.now found.now.expanded.now found.now.verdicts.now
-        (SendsPrefix (O.sent out.old) (O.sent out.new))) }
+    requires { HaveFound found.now }
+    ensures whole { OnOk result (SendsReport contexts found.now (Sends O.Sink out.old out.new)) }
+    ensures part { OnErr result (SendsReport contexts found.now (SendsPrefixOf O.Sink out.old out.new)) }
     ensures faults { CountsFaults result (O.faults out.old) (O.faults out.new) }
     ensures refusals { MayRefuse result (O.refusals out.old) (O.refusals out.new) }
     ensures writes { WritesBy O.writes result out.old out.new }
 {
     let plan = Plan::new(alloc, found.expanded)?;
     let mut buffer = Vec::with_capacity(alloc, PIECE)?;
-    let mut place = Some(0);
-    while let Some(from) = place {
-        place = send_from(alloc, out, &mut buffer, found, &plan, contexts, from)?;
+    let mut cursor = Some(0);
+    while let Some(from) = cursor {
+        cursor = send_from(alloc, out, &mut buffer, found, &plan, contexts, from)?;
     }
     finish(out, &mut buffer)
 }
 
-/// Sends the line at a place, and gives the place after it.
+/// Sends the line at a cursor, and gives the cursor after it.
 fn send_from<O: Sink>(
     alloc: Global,
     out: &mut O,
@@ -60,14 +57,12 @@ fn send_from<O: Sink>(
     from: u32,
 ) -> Result<Option<u32>, SinkFault>
     requires plan { IsPlanOf found.now.expanded.now.nodes plan.now }
-    requires found { AreFound found.now.image.now found.now.expanded.now found.now.verdicts.now }
+    requires found { HaveFound found.now }
     ensures order { IfOk result (λ next. left_from next < left_from (Some from)) }
-    ensures pending { IfOk result (λ next.
-        SendsNext (StandsAt contexts found.now.image.now found.now.expanded.now found.now.verdicts.now) from
-        (Pending (O.sent out.old) (O.sent out.new) buffer.new.items) buffer.old.items next) }
-    ensures part { OnErr result
-        (SendsPart (StandsAt contexts found.now.image.now found.now.expanded.now found.now.verdicts.now) from
-        (SendsPrefix (O.sent out.old) (O.sent out.new)) buffer.old.items) }
+    ensures pending { IfOk result (SendsNext (StandsIn contexts found.now) from
+        (IsPending O.Sink out.old out.new buffer.new.items) buffer.old.items) }
+    ensures part { OnErr result (SendsPart (StandsIn contexts found.now) from
+        (SendsPrefixOf O.Sink out.old out.new) buffer.old.items) }
     ensures faults { CountsFaults result (O.faults out.old) (O.faults out.new) }
     ensures refusals { MayRefuse result (O.refusals out.old) (O.refusals out.new) }
     ensures writes { WritesBy O.writes result out.old out.new }

@@ -65,7 +65,7 @@ pub fn run<R: Threads + Sync, S: Source, O: Sink, E: Sink, G: Gate + Sync>(
 
     // What standard error gets.
     ensures silent { result.status ≡ Status.Done → err.new ≡ err.old }
-    ensures reported { result.status ≢ Status.Done → Reports E.sent E.faults E.refusals E.writes
+    ensures reported { result.status ≢ Status.Done → Reports E.Sink
         (fault_text result.status) err.old err.new }
 
     // Nothing is settled over the table today.

@@ -19,23 +19,23 @@ flag-one : (b : Bool) → b ≡ true → ◌≡◌ {A = ℕ} (cond b 1 0) 1
 flag-one b waits = ap (λ (c : Bool). cond c 1 0) waits
 
 -- a node that waited and is taken counts no more
-pub count_of-taken : (waiting : List Bool) (n : ℕ) → n < length waiting → Waits waiting n
-    → count_of (slice_set waiting n false) + 1 ≡ count_of waiting
+pub count_of-taken : (waiting : List Bool) (n : ℕ) → n < length waiting → Waits waiting n →
+    count_of (slice_set waiting n false) + 1 ≡ count_of waiting
 count_of-taken waiting n inside waits =
     let one = flag-one (slice_index_or waiting n false) waits in
     omega (arith, sum_by-set (λ b. cond b 1 0) waiting n false false inside, one)
 
 -- fewer changes to come are worth less, however many nodes wait
-product_falls : (fewer more nodes count : ℕ) → fewer + 1 ≤ more → count ≤ nodes
-    → fewer * (nodes + 1) + count < more * (nodes + 1)
+product_falls : (fewer more nodes count : ℕ) → fewer + 1 ≤ more → count ≤ nodes →
+    fewer * (nodes + 1) + count < more * (nodes + 1)
 product_falls fewer more nodes count less few =
     let product = mul-le (fewer + 1) (nodes + 1) more (nodes + 1) less (omega arith) in
     let whole : (fewer + 1) * (nodes + 1) ≡ fewer * (nodes + 1) + (nodes + 1) = grind arith in
     omega (arith, product, whole)
 
 -- after a visit the budget is smaller: there are more changes, or the node that was taken waits no more
-pub budget_falls : (nodes height old new : ℕ) (waited taken waiting : List Bool) → new ≤ nodes * height → old ≤ new
-    → length waiting ≡ nodes → count_of taken + 1 ≡ count_of waited
+pub budget_falls : (nodes height old new : ℕ) (waited taken waiting : List Bool) → new ≤ nodes * height → old ≤ new →
+    length waiting ≡ nodes → count_of taken + 1 ≡ count_of waited
     → (new ≡ old → waiting ≡ taken) → budget nodes height new waiting < budget nodes height old waited
 budget_falls nodes height old new waited taken waiting short longer len fell calm = ⊎_elim
     (λ (same : new ≡ old).

@@ -47,7 +47,7 @@ module _ {Self V S : Type 0} (g : Ghosts Self V S) (before domain : Self) (later
   course_then : IsUnderWay g nodes domain old
   course_then = under_way_later g before domain later nodes old course
 
-  -- what was moved is so then, too
+  -- what was moved still stands for the transfer then
   moved_then : IsMovedFrom g domain old from moved
   moved_then = moved_later g before domain later nodes old course from moved is
 

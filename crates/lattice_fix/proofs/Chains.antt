@@ -25,9 +25,9 @@ record HasChains {D : Type 0} (F : Framework D) (held : List (Option D)) (count 
   total : sum_by length chains ≡ count
 
 -- a raise makes a chain longer
-longer : {D : Type 0} (F : Framework D) → IsMonotone F → (chain : List D) (o : Option D) (x : D) → last_of chain ≡ o
-    → ((y : D) → o ≡ Some y → F.carrier y) → F.carrier x → Raises F o x → IsChain F chain
-    → IsChain F (joined F o x ∷ chain)
+longer : {D : Type 0} (F : Framework D) → IsMonotone F → (chain : List D) (o : Option D) (x : D) → last_of chain ≡ o →
+    ((y : D) → o ≡ Some y → F.carrier y) → F.carrier x → Raises F o x → IsChain F chain →
+    IsChain F (joined F o x ∷ chain)
 longer F M [] o x last within carrier raises chain =
     subst (λ (p : Option _). IsChain F (joined F p x ∷ [])) last carrier
 longer {D} F M (y ∷ earlier) o x last within carrier raises chain =
@@ -37,9 +37,9 @@ longer {D} F M (y ∷ earlier) o x last within carrier raises chain =
     (M.join_within y x cy carrier, M.join_left y x cy carrier, (λ (same : y ≡ F.join y x). apart (sym same)), chain)
 
 -- a change makes one of the chains longer by one
-step_chains : {D : Type 0} (F : Framework D) → IsMonotone F
-    → (nodes : List Node) (before : List (Option D)) (change : Change) (after : List (Option D)) (count : ℕ)
-    → AllWithin F before → HasChains F before count → IsStep F nodes before change after → HasChains F after (count + 1)
+step_chains : {D : Type 0} (F : Framework D) → IsMonotone F →
+    (nodes : List Node) (before : List (Option D)) (change : Change) (after : List (Option D)) (count : ℕ) →
+    AllWithin F before → HasChains F before count → IsStep F nodes before change after → HasChains F after (count + 1)
 step_chains {D} F M nodes before change after count within has step =
     let n : ℕ = change.node in
     let chain : List D = slice_index_or has.chains n [] in
@@ -47,18 +47,20 @@ step_chains {D} F M nodes before change after count within has step =
     let top : D = joined F o step.brought in
     let inside : n < length has.chains =
     subst (λ (k : ℕ). n < k) (ap length has.lasts ∙ length-map has.chains last_of) step.inside in
-    let last : last_of chain ≡ o = sym (get_or-map last_of has.chains n [] None inside)
-    ∙ ap (λ (w : List (Option D)). value_at w n) (sym has.lasts) in
-    let grown : IsChain F (top ∷ chain) = longer F M chain o step.brought last (within n)
+    let last : last_of chain ≡ o =
+    sym (get_or-map last_of has.chains n [] None inside) ∙ ap (λ (w : List (Option D)). value_at w n) (sym has.lasts) in
+    let grown : IsChain F (top ∷ chain) =
+    longer F M chain o step.brought last (within n)
     (brought_within F M nodes before n change.from step.brought within step.brings) step.raises (has.each n) in
     record {
       chains = slice_set has.chains n (top ∷ chain);
-      lasts = step.leaves ∙ (ap (λ (w : List (Option D)). slice_set w n (Some top)) has.lasts ∙ sym
-          (map-set last_of has.chains n (top ∷ chain)));
+      lasts = step.leaves
+          ∙ (ap (λ (w : List (Option D)). slice_set w n (Some top)) has.lasts
+          ∙ sym (map-set last_of has.chains n (top ∷ chain)));
       each = λ i. ⊎_elim
           (λ (same : i ≡ n). subst (λ (v : List D). IsChain F v)
-          (sym (get_or-set_same has.chains n (top ∷ chain) [] inside) ∙ ap
-          (λ (q : ℕ). slice_index_or (slice_set has.chains n (top ∷ chain)) q []) (sym same)) grown)
+          (sym (get_or-set_same has.chains n (top ∷ chain) [] inside)
+          ∙ ap (λ (q : ℕ). slice_index_or (slice_set has.chains n (top ∷ chain)) q []) (sym same)) grown)
           (λ (apart : i ≢ n). subst (λ (v : List D). IsChain F v)
           (sym (get_or-set_other has.chains n i (top ∷ chain) [] apart)) (has.each i))
           (cases_eq i n);
@@ -66,10 +68,10 @@ step_chains {D} F M nodes before change after count within has step =
     }
 
 -- a replay makes the chains longer by one for each change
-Replays-chains : {D : Type 0} (F : Framework D) → IsMonotone F
-    → (nodes : List Node) (before : List (Option D)) (changes : List Change) (after : List (Option D)) (count : ℕ)
-    → AllWithin F before → HasChains F before count → Replays F nodes before changes after
-    → HasChains F after (count + length changes)
+Replays-chains : {D : Type 0} (F : Framework D) → IsMonotone F →
+    (nodes : List Node) (before : List (Option D)) (changes : List Change) (after : List (Option D)) (count : ℕ) →
+    AllWithin F before → HasChains F before count → Replays F nodes before changes after →
+    HasChains F after (count + length changes)
 Replays-chains {D} F M nodes before [] after count within has replay =
     let sum : count ≡ count + 0 = omega arith in
     subst (λ (i : ℕ). HasChains F after i) sum (subst (λ (w : List (Option D)). HasChains F w count) (sym replay) has)
@@ -91,10 +93,10 @@ total-nothing D zero = refl
 total-nothing D (suc n) = total-nothing D n
 
 -- a replay from nothing has at most as many changes as the nodes' chains can have members
-pub length-replay : {D : Type 0} (F : Framework D) → IsMonotone F
-    → (nodes : List Node) (changes : List Change) (after : List (Option D))
-    → Replays F nodes (nothing nodes) changes after → length after ≡ length nodes
-    → length changes ≤ length nodes * F.height
+pub length-replay : {D : Type 0} (F : Framework D) → IsMonotone F →
+    (nodes : List Node) (changes : List Change) (after : List (Option D)) →
+    Replays F nodes (nothing nodes) changes after → length after ≡ length nodes →
+    length changes ≤ length nodes * F.height
 length-replay {D} F M nodes changes after replay len =
     let n : ℕ = length nodes in
     let begin : HasChains F (nothing nodes) 0 = record {
@@ -103,11 +105,12 @@ length-replay {D} F M nodes changes after replay len =
       each = λ i. subst (λ (chain : List D). IsChain F chain) (sym (at_replicate n i [])) tt;
       total = total-nothing D n;
     } in
-    let has : HasChains F after (0 + length changes) = Replays-chains F M nodes (nothing nodes) changes after 0
-    (λ k x is. absurd (nothing_at nodes k x is)) begin replay in
+    let has : HasChains F after (0 + length changes) =
+    Replays-chains F M nodes (nothing nodes) changes after 0 (λ k x is. absurd (nothing_at nodes k x is)) begin
+    replay in
     let as_many : length has.chains ≡ n = sym (ap length has.lasts ∙ length-map has.chains last_of) ∙ len in
-    let each : All (λ (chain : List D). length chain ≤ F.height) has.chains = All-from_get_or
-    (λ (chain : List D). length chain ≤ F.height) has.chains []
+    let each : All (λ (chain : List D). length chain ≤ F.height) has.chains =
+    All-from_get_or (λ (chain : List D). length chain ≤ F.height) has.chains []
     (λ i _. M.chains (slice_index_or has.chains i []) (has.each i)) in
     let few : sum_by length has.chains ≤ length has.chains * F.height = sum_by-le length F.height has.chains each in
     let fewer : sum_by length has.chains ≤ n * F.height =

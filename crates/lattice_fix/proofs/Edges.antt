@@ -18,13 +18,13 @@ pub edge_inside : (nodes : List Node) → IsGraph nodes → (n m : ℕ) → IsSu
 edge_inside nodes graph n m leads = let named = node-from_successor nodes n m leads in
     (slice_get_within nodes n named.0 named.1, successor_inside nodes n m graph leads)
 
--- both numbers have a slot, and the second has a flag
+-- each of the two nodes has a slot, and the second has a flag
 pub record HaveSlots {V : Type 0} (values : List (Option V)) (waiting : List Bool) (n m : ℕ) : Type 0 where
   pub from : n < length values
   pub to : m < length values
   pub flag : m < length waiting
 
--- while the solver works, the ends of an edge have them
+-- while the solver works, the ends of an edge have slots, and the second a flag
 pub have_slots : {V D : Type 0} {F : Framework D} {fits : V → Type 0} {stands : V → D} {nodes : List Node}
     {values : List (Option V)} {changes : List Change} {waiting : List Bool} →
     IsCourse F fits stands nodes values changes waiting → (n m : ℕ) → IsSuccessor (graph_step nodes) n m →

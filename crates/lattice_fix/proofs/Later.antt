@@ -38,19 +38,17 @@ same_data {V} {D} f g (Some v ∷ values) same =
     ap (λ (y : D). Some y ∷ data_of g values) (same 0 v refl)
     ∙ ap (λ (w : List (Option D)). Some (f v) ∷ w) (same_data f g values (λ n. same (suc n)))
 
--- the domain went on: its setting is the same, and a fit value stays fit and stands for the same
+-- what a domain keeps when it goes on: its setting, and what is fit and what that stands for
 pub record IsLater {Self V S : Type 0} (g : Ghosts Self V S) (old new : Self) : Type 0 where
-  pub goes_on : g.goes_on (g.state old) (g.state new)
   pub setting : g.setting (g.state new) ≡ g.setting (g.state old)
   pub fits : (v : V) → fits_in g old v → fits_in g new v
   pub stands : (v : V) → fits_in g old v → data_in g new v ≡ data_in g old v
 
--- by its laws the domain went on like that
+-- by its laws a domain that goes on keeps them
 pub is_later : {M : Type 1} {𝓤 : Ura M} {𝓛 : Logic 𝓤} {𝓜 : Model 𝓤 𝓛.H} {𝓡 : Running 𝓤 𝓛.H 𝓜} {Self V S : RattleType}
     {g : Ghosts Self.Denot V.Denot S.Denot} {d : Dict} → Met 𝓛 𝓜 𝓡 𝓡.env Self V S g d → (old new : Self.Denot) →
     g.goes_on (g.state old) (g.state new) → IsLater g old new
 is_later {g = g} met old new goes = record {
-  goes_on = goes;
   setting = met.same_setting (g.state old) (g.state new) goes;
   fits = λ v. met.still_fits (g.state old) (g.state new) v goes;
   stands = λ v. met.still_stands (g.state old) (g.state new) v goes;
@@ -90,7 +88,7 @@ module _ {Self V S : Type 0} (g : Ghosts Self V S) (old new : Self) (later : IsL
         subst (λ (b : g.Setting). IsClear (g.framework b) (held_in g new work) work.waiting n m) (sym later.setting)
         (subst (λ (w : List (Option g.Data)). IsClear (framework_of g old) w work.waiting n m) (sym stay) clear)
 
-    -- what was moved stands for the transfer also later
+    -- what was moved still stands for the transfer
     pub moved_later : (from : ℕ) (moved : V) → IsMovedFrom g old work from moved → IsMovedFrom g new work from moved
     moved_later from moved is = record {
       fit = later.fits moved is.fit;
@@ -103,7 +101,7 @@ module _ {Self V S : Type 0} (g : Ghosts Self V S) (old new : Self) (later : IsL
           ∙ ap (λ (b : g.Setting). (g.framework b).transfer from (data_in g new is.value)) (sym later.setting)));
     }
 
--- what was moved, where the node before has what it had
+-- what was moved stands for the transfer also where the node before keeps its value
 pub moved_kept : {Self V S : Type 0} (g : Ghosts Self V S) (domain : Self) (old new : Work V) (from : ℕ) (moved : V) →
     value_at new.values.items from ≡ value_at old.values.items from →
     IsMovedFrom g domain old from moved → IsMovedFrom g domain new from moved

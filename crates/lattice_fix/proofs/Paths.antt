@@ -1,5 +1,5 @@
--- Solutions and paths: what is moved along each path lies below a solution, and where transfers distribute, the solution
--- that a replay leads to is the least upper bound of what is moved along all paths.
+-- Solutions and paths: what is moved along each path lies below a solution, and where transfers distribute, the
+-- solution that a replay leads to is the least upper bound of what is moved along all paths.
 use Rattle.std.proofs.Common.{◌≡◌, ℕ, suc, ◌<◌, List, [], ◌∷◌, length, map, Some, refl, sym, ◌∙◌, ap, subst, arith}
 use Rattle.std.specs.Prelude.{slice_get}
 use Rattle.list_lemmas.proofs.Members.{found-inside}
@@ -21,10 +21,10 @@ along_within F M (n ∷ []) = M.start_within
 along_within F M (m ∷ n ∷ earlier) = M.transfer_within n (along F (n ∷ earlier)) (along_within F M (n ∷ earlier))
 
 -- what is moved along a path lies below each solution
-pub along_below : {D : Type 0} (F : Framework D) → IsMonotone F → (nodes : List Node) → IsGraph nodes
-    → (before : List D) → IsSolution F nodes before
-    → (n : ℕ) (earlier : List ℕ) (x : D) → IsPath (graph_step nodes) 0 (n ∷ earlier) → slice_get before n ≡ Some x
-    → F.below (along F (n ∷ earlier)) x
+pub along_below : {D : Type 0} (F : Framework D) → IsMonotone F → (nodes : List Node) → IsGraph nodes →
+    (before : List D) → IsSolution F nodes before
+    → (n : ℕ) (earlier : List ℕ) (x : D) → IsPath (graph_step nodes) 0 (n ∷ earlier) → slice_get before n ≡ Some x →
+    F.below (along F (n ∷ earlier)) x
 along_below F M nodes graph before sol n [] x path is =
     sol.starts x (subst (λ (k : ℕ). slice_get before k ≡ Some x) path is)
 along_below {D} F M nodes graph before sol m (n ∷ earlier) x path is =
@@ -40,19 +40,19 @@ along_below {D} F M nodes graph before sol m (n ∷ earlier) x path is =
     (sol.follows n m y x path.0 value.1 is)
 
 -- lists as long as one another with the same at each place are one
-same_list : {D : Type 0} (one two : List D) → length one ≡ length two
-    → ((n : ℕ) (x y : D) → slice_get one n ≡ Some x → slice_get two n ≡ Some y → x ≡ y) → one ≡ two
+same_list : {D : Type 0} (one two : List D) → length one ≡ length two →
+    ((n : ℕ) (x y : D) → slice_get one n ≡ Some x → slice_get two n ≡ Some y → x ≡ y) → one ≡ two
 same_list [] [] len each = refl
 same_list [] (y ∷ two) len each = absurd (omega (arith, len))
 same_list (x ∷ one) [] len each = absurd (omega (arith, len))
 same_list {D} (x ∷ one) (y ∷ two) len each =
     let rest : length one ≡ length two = omega (arith, len) in
-    ap (λ (w : D). w ∷ one) (each 0 x y refl refl) ∙ ap (λ (w : List D). y ∷ w)
-    (same_list one two rest (λ n. each (suc n)))
+    ap (λ (w : D). w ∷ one) (each 0 x y refl refl)
+    ∙ ap (λ (w : List D). y ∷ w) (same_list one two rest (λ n. each (suc n)))
 
 -- two least solutions are one list
-pub least_same : {D : Type 0} (F : Framework D) → IsMonotone F → (nodes : List Node) (one two : List D)
-    → IsLeast F nodes one → IsLeast F nodes two → one ≡ two
+pub least_same : {D : Type 0} (F : Framework D) → IsMonotone F → (nodes : List Node) (one two : List D) →
+    IsLeast F nodes one → IsLeast F nodes two → one ≡ two
 least_same F M nodes one two a b = same_list one two (a.solution.one_each ∙ sym b.solution.one_each)
     (λ n x y is_x is_y. M.antisymmetric x y (a.solution.within n x is_x) (b.solution.within n y is_y)
     (a.least two b.solution n x y is_x is_y) (b.least one a.solution n y x is_y is_x))
@@ -82,29 +82,29 @@ module _ {D : Type 0} (F : Framework D) (M : IsMonotone F) (nodes : List Node) w
   joint_within : (n : ℕ) (joint : Joint) → F.carrier (join_of F n joint)
   unfolding join_of
   joint_within n (path earlier) = along_within F M (n ∷ earlier)
-  joint_within n (both one two) = M.join_within (join_of F n one) (join_of F n two) (joint_within n one)
-      (joint_within n two)
+  joint_within n (both one two) =
+      M.join_within (join_of F n one) (join_of F n two) (joint_within n one) (joint_within n two)
 
   -- one member more makes paths to a successor
-  onward_paths : (n m : ℕ) (joint : Joint) → IsSuccessor (graph_step nodes) n m → ArePaths nodes n joint
-      → ArePaths nodes m (onward n joint)
+  onward_paths : (n m : ℕ) (joint : Joint) → IsSuccessor (graph_step nodes) n m → ArePaths nodes n joint →
+      ArePaths nodes m (onward n joint)
   unfolding ArePaths onward
   onward_paths n m (path earlier) leads paths = (leads, paths)
   onward_paths n m (both one two) leads paths = (onward_paths n m one leads paths.0, onward_paths n m two leads paths.1)
 
   -- and moves their join by the transfer
-  onward_join : IsDistributive F → (n m : ℕ) (joint : Joint)
-      → F.transfer n (join_of F n joint) ≡ join_of F m (onward n joint)
+  onward_join : IsDistributive F → (n m : ℕ) (joint : Joint) →
+      F.transfer n (join_of F n joint) ≡ join_of F m (onward n joint)
   unfolding join_of onward
   onward_join distributive n m (path earlier) = refl
   onward_join distributive n m (both one two) =
       distributive n (join_of F n one) (join_of F n two) (joint_within n one) (joint_within n two)
-      ∙ (ap (λ (x : D). F.join x (F.transfer n (join_of F n two))) (onward_join distributive n m one) ∙ ap
-      (λ (x : D). F.join (join_of F m (onward n one)) x) (onward_join distributive n m two))
+      ∙ (ap (λ (x : D). F.join x (F.transfer n (join_of F n two))) (onward_join distributive n m one)
+      ∙ ap (λ (x : D). F.join (join_of F m (onward n one)) x) (onward_join distributive n m two))
 
   -- a bound of what is moved along all paths to the node bounds the join
-  joint_below : (n : ℕ) (bound : D) → F.carrier bound
-      → ((earlier : List ℕ) → IsPath (graph_step nodes) 0 (n ∷ earlier) → F.below (along F (n ∷ earlier)) bound)
+  joint_below : (n : ℕ) (bound : D) → F.carrier bound →
+      ((earlier : List ℕ) → IsPath (graph_step nodes) 0 (n ∷ earlier) → F.below (along F (n ∷ earlier)) bound)
       → (joint : Joint) → ArePaths nodes n joint → F.below (join_of F n joint) bound
   unfolding join_of ArePaths
   joint_below n bound carrier below (path earlier) paths = below earlier paths
@@ -128,14 +128,14 @@ module _ {D : Type 0} (F : Framework D) (M : IsMonotone F) (nodes : List Node) w
   both_join m one two = refl
 
   -- what is before a node lies below each bound of what is moved along all paths that end in it
-  pub least_over_paths : IsDistributive F → (changes : List Change) (before : List D)
-      → Replays F nodes (nothing nodes) changes (map Some before)
+  pub least_over_paths : IsDistributive F → (changes : List Change) (before : List D) →
+      Replays F nodes (nothing nodes) changes (map Some before)
       → (n : ℕ) (x bound : D) → slice_get before n ≡ Some x → F.carrier bound
-      → ((earlier : List ℕ) → IsPath (graph_step nodes) 0 (n ∷ earlier) → F.below (along F (n ∷ earlier)) bound)
-      → F.below x bound
+      → ((earlier : List ℕ) → IsPath (graph_step nodes) 0 (n ∷ earlier) → F.below (along F (n ∷ earlier)) bound) →
+      F.below x bound
   least_over_paths distributive changes before replay n x bound is carrier below =
-      let joint = replay_induction F M nodes (λ (k : ℕ) (y : D). (j : Joint) × ArePaths nodes k j × (y ≡ join_of F k j))
-      start_path
+      let joint = replay_induction F M nodes
+      (λ (k : ℕ) (y : D). (j : Joint) × ArePaths nodes k j × (y ≡ join_of F k j)) start_path
       (λ k m y leads cy has. (
         onward k has.0,
         onward_paths k m has.0 leads has.1,
@@ -144,8 +144,8 @@ module _ {D : Type 0} (F : Framework D) (M : IsMonotone F) (nodes : List Node) w
       (λ m y z cy cz one two. (
         both one.0 two.0,
         both_paths m one.0 two.0 one.1 two.1,
-        ap (λ (w : D). F.join w z) one.2 ∙ (ap (λ (w : D). F.join (join_of F m one.0) w) two.2 ∙ both_join m one.0
-            two.0),
+        ap (λ (w : D). F.join w z) one.2
+            ∙ (ap (λ (w : D). F.join (join_of F m one.0) w) two.2 ∙ both_join m one.0 two.0),
       ))
       changes before replay n x is in
       subst (λ (y : D). F.below y bound) (sym joint.2) (joint_below n bound carrier below joint.0 joint.1)

@@ -27,27 +27,27 @@ pub nothing_at : {D : Type 0} (nodes : List Node) (n : ℕ) (x : D) → value_at
 nothing_at nodes n x is = none-some x (sym (at_replicate (length nodes) n None) ∙ is)
 
 -- one change more
-pub Replays-more : {D : Type 0} (F : Framework D) (nodes : List Node) (before : List (Option D)) (changes : List Change)
-    (between : List (Option D)) (change : Change) (after : List (Option D)) →
-    Replays F nodes before changes between → IsStep F nodes between change after → Replays F nodes before
-    (changes ++ change ∷ []) after
+pub Replays-more : {D : Type 0} (F : Framework D) (nodes : List Node) (before : List (Option D))
+    (changes : List Change) (between : List (Option D)) (change : Change) (after : List (Option D)) →
+    Replays F nodes before changes between → IsStep F nodes between change after →
+    Replays F nodes before (changes ++ change ∷ []) after
 Replays-more {D} F nodes before [] between change after replay step =
     (after, subst (λ (held : List (Option D)). IsStep F nodes held change after) replay step, refl)
 Replays-more F nodes before (first ∷ changes) between change after replay step =
     (replay.0, replay.1, Replays-more F nodes replay.0 changes between change after replay.2 step)
 
 -- what a change brings is in the carrier
-pub brought_within : {D : Type 0} (F : Framework D) → IsMonotone F
-    → (nodes : List Node) (held : List (Option D)) (n : ℕ) (from : Option ℕ) (x : D) → AllWithin F held
-    → Brings F nodes held n from x → F.carrier x
+pub brought_within : {D : Type 0} (F : Framework D) → IsMonotone F →
+    (nodes : List Node) (held : List (Option D)) (n : ℕ) (from : Option ℕ) (x : D) → AllWithin F held →
+    Brings F nodes held n from x → F.carrier x
 brought_within F M nodes held n None x within brings = subst F.carrier (sym brings.1) M.start_within
 brought_within F M nodes held n (Some from) x within brings = let y = brings.1.0 in
     subst F.carrier (sym brings.1.2) (M.transfer_within from y (within from y brings.1.1))
 
 -- a change leaves all in the carrier
-pub step_within : {D : Type 0} (F : Framework D) → IsMonotone F
-    → (nodes : List Node) (before : List (Option D)) (change : Change) (after : List (Option D)) → AllWithin F before
-    → IsStep F nodes before change after → AllWithin F after
+pub step_within : {D : Type 0} (F : Framework D) → IsMonotone F →
+    (nodes : List Node) (before : List (Option D)) (change : Change) (after : List (Option D)) → AllWithin F before →
+    IsStep F nodes before change after → AllWithin F after
 step_within {D} F M nodes before change after within step =
     subst (λ (held : List (Option D)). AllWithin F held) (sym step.leaves)
     (raised_within F M before change.node step.brought step.inside within
@@ -60,9 +60,9 @@ step_length F nodes before change after step =
     ap length step.leaves ∙ length-set before change.node (Some (joined F (value_at before change.node) step.brought))
 
 -- so does a replay
-pub Replays-within : {D : Type 0} (F : Framework D) → IsMonotone F
-    → (nodes : List Node) (before : List (Option D)) (changes : List Change) (after : List (Option D))
-    → AllWithin F before → Replays F nodes before changes after → AllWithin F after
+pub Replays-within : {D : Type 0} (F : Framework D) → IsMonotone F →
+    (nodes : List Node) (before : List (Option D)) (changes : List Change) (after : List (Option D)) →
+    AllWithin F before → Replays F nodes before changes after → AllWithin F after
 Replays-within {D} F M nodes before [] after within replay =
     subst (λ (held : List (Option D)). AllWithin F held) (sym replay) within
 Replays-within F M nodes before (change ∷ changes) after within replay =
@@ -70,9 +70,9 @@ Replays-within F M nodes before (change ∷ changes) after within replay =
     replay.2
 
 -- from nothing all is in the carrier
-pub replay_within : {D : Type 0} (F : Framework D) → IsMonotone F
-    → (nodes : List Node) (changes : List Change) (after : List (Option D))
-    → Replays F nodes (nothing nodes) changes after → AllWithin F after
+pub replay_within : {D : Type 0} (F : Framework D) → IsMonotone F →
+    (nodes : List Node) (changes : List Change) (after : List (Option D)) →
+    Replays F nodes (nothing nodes) changes after → AllWithin F after
 replay_within F M nodes changes after replay =
     Replays-within F M nodes (nothing nodes) changes after (λ n x is. absurd (nothing_at nodes n x is)) replay
 
@@ -83,11 +83,11 @@ AllBelow {D} F held bound = (n : ℕ) (x y : D) → value_at held n ≡ Some x �
 module _ {D : Type 0} (F : Framework D) (M : IsMonotone F) (nodes : List Node) (G : IsGraph nodes) (other : List D)
     (sol : IsSolution F nodes other) where
   -- what a change brings lies below each solution
-  brought_below : (held : List (Option D)) (n : ℕ) (from : Option ℕ) (x y : D) → AllWithin F held
-      → AllBelow F held other → Brings F nodes held n from x → slice_get other n ≡ Some y → F.below x y
+  brought_below : (held : List (Option D)) (n : ℕ) (from : Option ℕ) (x y : D) → AllWithin F held →
+      AllBelow F held other → Brings F nodes held n from x → slice_get other n ≡ Some y → F.below x y
   brought_below held n None x y within below brings is =
-      subst (λ (z : D). F.below z y) (sym brings.1) (sol.starts y
-      (subst (λ (k : ℕ). slice_get other k ≡ Some y) brings.0 is))
+      subst (λ (z : D). F.below z y) (sym brings.1)
+      (sol.starts y (subst (λ (k : ℕ). slice_get other k ≡ Some y) brings.0 is))
   brought_below held n (Some from) x y within below brings is =
       let z : D = brings.1.0 in
       let ends = edge_inside nodes G from n brings.0 in
@@ -102,8 +102,8 @@ module _ {D : Type 0} (F : Framework D) (M : IsMonotone F) (nodes : List Node) (
       (M.transfer_within from w cw) (sol.within n y is) up (sol.follows from n w y brings.0 bound.1 is))
 
   -- a change leaves all below the solution
-  step_below : (before : List (Option D)) (change : Change) (after : List (Option D)) → AllWithin F before
-      → AllBelow F before other → IsStep F nodes before change after → AllBelow F after other
+  step_below : (before : List (Option D)) (change : Change) (after : List (Option D)) → AllWithin F before →
+      AllBelow F before other → IsStep F nodes before change after → AllBelow F after other
   step_below before change after within below step =
       let to : ℕ = change.node in
       let x : D = step.brought in
@@ -123,8 +123,8 @@ module _ {D : Type 0} (F : Framework D) (M : IsMonotone F) (nodes : List Node) (
       (cases_eq n to))
 
   -- so does a replay
-  Replays-below : (before : List (Option D)) (changes : List Change) (after : List (Option D)) → AllWithin F before
-      → AllBelow F before other → Replays F nodes before changes after → AllBelow F after other
+  Replays-below : (before : List (Option D)) (changes : List Change) (after : List (Option D)) → AllWithin F before →
+      AllBelow F before other → Replays F nodes before changes after → AllBelow F after other
   Replays-below before [] after within below replay =
       subst (λ (held : List (Option D)). AllBelow F held other) (sym replay) below
   Replays-below before (change ∷ changes) after within below replay =
@@ -132,7 +132,8 @@ module _ {D : Type 0} (F : Framework D) (M : IsMonotone F) (nodes : List Node) (
       (step_below before change replay.0 within below replay.1) replay.2
 
   -- what a replay from nothing leads to lies below each solution
-  pub replay_below : (changes : List Change) (after : List (Option D)) → Replays F nodes (nothing nodes) changes after
-      → AllBelow F after other
-  replay_below changes after replay = Replays-below (nothing nodes) changes after
-      (λ n x is. absurd (nothing_at nodes n x is)) (λ n x y has is. absurd (nothing_at nodes n x has)) replay
+  pub replay_below : (changes : List Change) (after : List (Option D)) →
+      Replays F nodes (nothing nodes) changes after → AllBelow F after other
+  replay_below changes after replay =
+      Replays-below (nothing nodes) changes after (λ n x is. absurd (nothing_at nodes n x is))
+      (λ n x y has is. absurd (nothing_at nodes n x has)) replay

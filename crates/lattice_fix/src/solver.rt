@@ -17,13 +17,13 @@ use crate::waiting::Waiting;
 use path_model::{Graph, Node};
 use std::alloc::{AllocError, Global};
 
-/// The least solution of "the value before node 0 is at least the start, and the value before a successor is at least the
-/// transfer at the node", with the changes that led to it.
+/// The least solution of "the value before node 0 is at least the start, and the value before a successor is at least
+/// the transfer at the node", with the changes that led to it.
 ///
 /// Of the nodes that wait the least number is worked off first (the worklist algorithm of Nielson, Nielson and Hankin
-/// 1999), so that each node is worked off once where all edges lead to greater numbers. There are at most as many visits
-/// as changes. A visit transfers the value once, and a second time where the node has two successors and none that is
-/// another node has a value yet. `Stopped` hands on a stop of the domain.
+/// 1999), so that each node is worked off once where all edges lead to greater numbers. There are at most as many
+/// visits as changes. A visit transfers the value once, and a second time where the node has two successors and none
+/// that is another node has a value yet. `Stopped` hands on a stop of the domain.
 pub fn solve<D: Domain>(
     alloc: Global,
     graph: &Graph,
@@ -34,9 +34,8 @@ pub fn solve<D: Domain>(
         IsLeast (D.framework (D.setting s)) graph.now (map (D.stands s) solution.values)) }
     ensures one_each { IfOk result (λ solution. length solution.values ≡ length graph.now) }
     ensures fits { IfOk result (λ solution. All (D.fits (D.state domain.new)) solution.values) }
-    ensures replay { IfOk result (λ solution. let s = D.state domain.new in
-        Replays (D.framework (D.setting s)) graph.now (nothing graph.now) solution.changes
-        (map Some (map (D.stands s) solution.values))) }
+    ensures replay { IfOk result (λ solution. let s = D.state domain.new in Replays (D.framework (D.setting s))
+        graph.now (nothing graph.now) solution.changes (map Some (map (D.stands s) solution.values))) }
     ensures stop { IfErr result (λ fault. IsCause (D.licensed (D.state domain.new)) fault) }
 {
     let nodes = graph.nodes();
@@ -102,7 +101,7 @@ fn first_work<V: Drop>(alloc: Global, count: usize, start: V) -> Result<Work<V>,
     })
 }
 
-// No value for each of `count` nodes.
+// `count` slots without a value.
 fn empty_slots<V: Drop>(alloc: Global, count: usize) -> Result<Vec<Option<V>>, AllocError>
     ensures { IfOk result (λ slots. slots.items ≡ replicate count None) }
 {
@@ -313,7 +312,8 @@ fn note<V, S>(work: &mut Work<V>, from: u32, to: u32, raised: bool) -> Result<()
     Ok(())
 }
 
-// Joins what was moved into the slot's value, or puts it there. Answers whether the slot then stands for something else.
+// Joins what was moved into the slot's value, or puts it there. Answers whether the slot then stands for something
+// else.
 fn receive<D: Domain>(
     domain: &mut D,
     slot: &mut Option<D::Value>,

@@ -9,13 +9,12 @@
 
 ghost use Rattle.std.specs.Prelude.{◌≡◌, ◌<◌, ◌++◌, [], length, vec_capacity, IsTrue, IsOk, OnOk, OnErr};
 ghost use Rattle.std.specs.List.{list_all};
-ghost use Rattle.std.specs.Io.KnownBytes.{Appends};
 ghost use Rattle.byte_port.specs.Count.{CountsFaults};
-ghost use Rattle.byte_port.specs.Stream.{SendsPrefix};
+ghost use Rattle.byte_port.specs.Sent.{Sends, SendsPrefixOf};
 ghost use Rattle.report_spec.specs.Graph.{graph_line_text};
 ghost use Rattle.report_spec.specs.Text.{line_text, text_of};
 ghost use Rattle.report_spec.specs.Valid.{is_valid};
-ghost use Rattle.line_sender.specs.Pending.{MayRefuse, Pending, WritesBy};
+ghost use Rattle.line_sender.specs.Pending.{IsPending, MayRefuse, WritesBy};
 
 use byte_port::{Sink, SinkFault, send_all};
 use std::alloc::Global;
@@ -31,8 +30,8 @@ pub const PIECE: usize = 65536;
 /// After an error a prefix of that was sent, and the buffer is of no more use.
 pub fn send_line<O: Sink>(out: &mut O, buffer: &mut Vec<u8>, line: &Line) -> Result<(), SinkFault>
     requires { IsTrue (is_valid line.now) }
-    ensures pending { OnOk result (Pending (O.sent out.old) (O.sent out.new) buffer.new.items (buffer.old.items ++ line_text line.now)) }
-    ensures part { OnErr result (SendsPrefix (O.sent out.old) (O.sent out.new) (buffer.old.items ++ line_text line.now)) }
+    ensures pending { OnOk result (IsPending O.Sink out.old out.new buffer.new.items (buffer.old.items ++ line_text line.now)) }
+    ensures part { OnErr result (SendsPrefixOf O.Sink out.old out.new (buffer.old.items ++ line_text line.now)) }
 
     // Less than a piece is left in the buffer, and less than a piece is not sent.
     ensures below_piece { OnOk result (length buffer.new.items < PIECE) }
@@ -52,8 +51,8 @@ pub fn send_graph_line<O: Sink>(
     buffer: &mut Vec<u8>,
     line: &GraphLine,
 ) -> Result<(), SinkFault>
-    ensures pending { OnOk result (Pending (O.sent out.old) (O.sent out.new) buffer.new.items (buffer.old.items ++ graph_line_text line.now)) }
-    ensures part { OnErr result (SendsPrefix (O.sent out.old) (O.sent out.new) (buffer.old.items ++ graph_line_text line.now)) }
+    ensures pending { OnOk result (IsPending O.Sink out.old out.new buffer.new.items (buffer.old.items ++ graph_line_text line.now)) }
+    ensures part { OnErr result (SendsPrefixOf O.Sink out.old out.new (buffer.old.items ++ graph_line_text line.now)) }
     ensures below_piece { OnOk result (length buffer.new.items < PIECE) }
     ensures held { length (buffer.old.items ++ graph_line_text line.now) < PIECE → out.new ≡ out.old }
     ensures faults { CountsFaults result (O.faults out.old) (O.faults out.new) }
@@ -66,8 +65,8 @@ pub fn send_graph_line<O: Sink>(
 
 /// Hands the buffer on where it has a piece.
 fn hand_on<O: Sink>(out: &mut O, buffer: &mut Vec<u8>) -> Result<(), SinkFault>
-    ensures pending { OnOk result (Pending (O.sent out.old) (O.sent out.new) buffer.new.items buffer.old.items) }
-    ensures part { OnErr result (SendsPrefix (O.sent out.old) (O.sent out.new) buffer.old.items) }
+    ensures pending { OnOk result (IsPending O.Sink out.old out.new buffer.new.items buffer.old.items) }
+    ensures part { OnErr result (SendsPrefixOf O.Sink out.old out.new buffer.old.items) }
     ensures below_piece { OnOk result (length buffer.new.items < PIECE) }
     ensures held { length buffer.old.items < PIECE → (out.new ≡ out.old) × IsOk result }
     ensures faults { CountsFaults result (O.faults out.old) (O.faults out.new) }
@@ -83,10 +82,10 @@ fn hand_on<O: Sink>(out: &mut O, buffer: &mut Vec<u8>) -> Result<(), SinkFault>
 /// Hands on what the buffer has, which then is empty and keeps its room.
 /// After an error a prefix of that was sent, and the buffer is of no more use.
 pub fn finish<O: Sink>(out: &mut O, buffer: &mut Vec<u8>) -> Result<(), SinkFault>
-    ensures whole { OnOk result (Appends (O.sent out.old) (O.sent out.new) buffer.old.items) }
+    ensures whole { OnOk result (Sends O.Sink out.old out.new buffer.old.items) }
     ensures empty { OnOk result (buffer.new.items ≡ []) }
     ensures room { OnOk result (vec_capacity buffer.new ≡ vec_capacity buffer.old) }
-    ensures part { OnErr result (SendsPrefix (O.sent out.old) (O.sent out.new) buffer.old.items) }
+    ensures part { OnErr result (SendsPrefixOf O.Sink out.old out.new buffer.old.items) }
     ensures faults { CountsFaults result (O.faults out.old) (O.faults out.new) }
     ensures refusals { MayRefuse result (O.refusals out.old) (O.refusals out.new) }
     ensures writes { WritesBy O.writes result out.old out.new }
@@ -99,8 +98,8 @@ pub fn finish<O: Sink>(out: &mut O, buffer: &mut Vec<u8>) -> Result<(), SinkFaul
 /// Sends valid lines, one after another. After an error the sink has a prefix of their text.
 pub fn send_lines<O: Sink>(alloc: Global, out: &mut O, lines: &[Line]) -> Result<(), SinkFault>
     requires { IsTrue (list_all is_valid lines.now) }
-    ensures whole { OnOk result (Appends (O.sent out.old) (O.sent out.new) (text_of lines.now)) }
-    ensures part { OnErr result (SendsPrefix (O.sent out.old) (O.sent out.new) (text_of lines.now)) }
+    ensures whole { OnOk result (Sends O.Sink out.old out.new (text_of lines.now)) }
+    ensures part { OnErr result (SendsPrefixOf O.Sink out.old out.new (text_of lines.now)) }
     ensures faults { CountsFaults result (O.faults out.old) (O.faults out.new) }
     ensures refusals { MayRefuse result (O.refusals out.old) (O.refusals out.new) }
     ensures writes { WritesBy O.writes result out.old out.new }

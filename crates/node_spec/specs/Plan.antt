@@ -1,4 +1,4 @@
--- Which line of a report stands at a place, from one verdict for each node of an expanded program.
+-- Which line of a report stands at a cursor, from one verdict for each node of an expanded program.
 use Rattle.std.specs.Prelude.{◌≡◌, ℕ, ◌+◌, ◌<◌, ◌≤◌, nat_lt, Bool, true, false, IsTrue, IsFalse, if◌then◌else◌, List, ◌∷◌, length, Option, Some, None, Contains, option_map, slice_get}
 use Rattle.std.specs.List.{AllByRecursion}
 use Rattle.elf_spec.specs.Image.{Image}
@@ -76,7 +76,7 @@ last_of (At at verdict) = at
 last_of (Context node at depth back verdict) = at
 last_of (Unreachable first last) = last
 
--- the first line by address from a place on, and the word after it, if there is one; none where no word is left
+-- the first line by address from a cursor on, and the word after it, if there is one; none where no word is left
 abbrev pub IsByAddress : Image → List Node → List Verdict → ℕ → Option (Line × Option ℕ) → Type 0
 IsByAddress image nodes verdicts from None = IsNextText image from None
 IsByAddress image nodes verdicts from (Some (line, next)) =

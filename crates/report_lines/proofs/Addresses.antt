@@ -131,7 +131,7 @@ module _ (image : Image) (entry : ℕ) (g : Geometry) (configurations : List Con
         begins = at_q.begins;
       }
 
-  -- all lines from a place on
+  -- all lines from a cursor on
   listed : (lines : List Line) (from : ℕ) → AreAllFrom (IsByAddress image nodes verdicts) (Some from) lines
       → Listed from lines
   listed [] from none = record { words = listed_none image from none; right = tt; greatest = tt; begins = tt }

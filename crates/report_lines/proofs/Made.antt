@@ -1,4 +1,4 @@
--- All lines make a report, and there are lines from each place on.
+-- All lines make a report, and there are lines from each cursor on.
 use Rattle.std.proofs.Common.{◌≡◌, ℕ, ◌^◌, ◌<◌, List, [], length, refl, subst, arith, Option, Some, None}
 use Rattle.std.specs.Prelude.{Bool, true, false, slice_get}
 use Rattle.elf_spec.specs.Image.{Image}
@@ -39,9 +39,9 @@ module _ (image : Image) (entry : ℕ) (g : Geometry) (configurations : List Con
   has : (n : ℕ) → n < length nodes → (verdict : Verdict) × (slice_get verdicts n ≡ Some verdict)
   has n inside = let (verdict, is, right) = found.right n inside in (verdict, is)
 
-  -- there are lines from each place on
-  pub rest : (contexts : Bool) (place : Option ℕ)
-      → (lines : List Line) × AreAllFrom (Stands contexts image configurations nodes verdicts) place lines
+  -- there are lines from each cursor on
+  pub rest : (contexts : Bool) (cursor : Option ℕ)
+      → (lines : List Line) × AreAllFrom (Stands contexts image configurations nodes verdicts) cursor lines
   rest contexts None = ([], refl)
   rest true (Some k) = numbers_left image entry g configurations nodes verdicts found (length configurations) k
       (omega arith)

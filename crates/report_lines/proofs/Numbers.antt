@@ -21,7 +21,7 @@ use Rattle.report_lines.specs.Findings.{AreFindings}
 use Rattle.report_lines.specs.Lines.{AreAllFrom}
 use Rattle.report_lines.proofs.Transport.{context_right}
 
--- what is left from a place on begins with what stands there
+-- what is left from a cursor on begins with what stands there
 drop_at : {A : Type 0} (xs : List A) (k : ℕ) (x : A) → slice_get xs k ≡ Some x → drop k xs ≡ x ∷ drop (k + 1) xs
 drop_at [] k x is = absurd (cc is)
 drop_at (y ∷ xs) zero x is = let same : y ≡ x = cc is in ap (λ z. z ∷ xs) same

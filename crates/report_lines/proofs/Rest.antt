@@ -1,4 +1,4 @@
--- From each place on there are lines of a report by address.
+-- From each cursor on there are lines of a report by address.
 use Rattle.std.proofs.Common.{◌≡◌, ℕ, zero, suc, ◌+◌, ◌*◌, ◌^◌, ◌<◌, ◌≤◌, List, [], ◌∷◌, ◌++◌, length, refl, ap, subst, sym, ◌∙◌, arith, inl, inr, Option, Some, None}
 use Rattle.std.specs.Prelude.{Bool, true, false, not, ◌==◌, ◌⊎◌, if◌then◌else◌, Contains, IsTrue, IsFalse, slice_get}
 use Rattle.std.specs.List.{AllByRecursion}
@@ -268,7 +268,7 @@ module _ (image : Image) (within : IsWithin image) where
       none_left from room = λ n at. none_of (is_text image n)
           (λ text. let below = within n text in omega (arith, room, at, below))
 
-      -- the lines from a place on
+      -- the lines from a cursor on
       pub addresses_left : (left from : ℕ) → 2 ^ 32 ≤ from + left
           → (lines : List Line) × AreAllFrom (IsByAddress image nodes verdicts) (Some from) lines
       addresses_left zero from room = ([], none_left from (omega (arith, room)))

@@ -22,7 +22,7 @@ verdict_valid nodes g n (Unknown hit miss) is =
     and_from (is_valid_way hit) (is_valid_way miss) (way_valid (graph_step nodes) n is.0.earlier hit is.0.names)
     (way_valid (graph_step nodes) n is.1.earlier miss is.1.names)
 
--- what holds of the verdict at each place holds of all
+-- what holds of the verdict at each cursor holds of all
 all_valid : (verdicts : List Verdict) → ((k : ℕ) (v : Verdict) → slice_get verdicts k ≡ Some v
     → is_valid_verdict v ≡ true)
     → list_all is_valid_verdict verdicts ≡ true

@@ -29,7 +29,7 @@ whole_word image p false whole text = let none : is_text image p ≡ false = rw 
 pub text_aligned : (image : Image) (p : ℕ) → IsText image p → p % 4 ≡ 0
 text_aligned image p text = whole_word image p (p % 4 == 0) refl text
 
--- a word among addresses by four has its place
+-- a word among addresses by four has its cursor
 pub word_place : (p n x : ℕ) → Contains (words_from p n) x → (i : ℕ) × (i < n) × (x ≡ p + 4 * i)
 word_place p zero x (k, lt, is) = absurd (omega (arith, lt))
 word_place p (suc n) x has = elim (has-cases p x (words_from (p + 4) n) has) [

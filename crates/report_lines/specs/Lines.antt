@@ -1,4 +1,4 @@
--- Lines that follow one another, each from the place after the one before.
+-- Lines that follow one another, each from the cursor after the one before.
 use Rattle.std.specs.Prelude.{◌≡◌, ℕ, Bool, true, false, List, [], ◌∷◌, ◌++◌, Option, Some, None}
 use Rattle.elf_spec.specs.Image.{Image}
 use Rattle.flow_spec.specs.Configuration.{Configuration}
@@ -7,17 +7,17 @@ use Rattle.report_spec.specs.declared.line.Line.{Line}
 use Rattle.report_spec.specs.declared.line.Verdict.{Verdict}
 use Rattle.node_spec.specs.Plan.{IsByAddress, IsByNumber}
 
--- which line, and which place after it, stands at a place
+-- which line, and which cursor after it, stands at a cursor
 abbrev pub Stands : Bool → Image → List Configuration → List Node → List Verdict → ℕ → Option (Line × Option ℕ) → Type 0
 Stands true image configurations nodes verdicts = IsByNumber configurations verdicts
 Stands false image configurations nodes verdicts = IsByAddress image nodes verdicts
 
--- the lines are all from a place on, where there is one
+-- the lines are all from a cursor on, where there is one
 abbrev pub AreAllFrom : (ℕ → Option (Line × Option ℕ) → Type 0) → Option ℕ → List Line → Type 0
 AreAllFrom At None lines = lines ≡ []
-AreAllFrom At (Some place) [] = At place None
-AreAllFrom At (Some place) (line ∷ lines) = (next : Option ℕ) × At place (Some (line, next)) × AreAllFrom At next lines
+AreAllFrom At (Some cursor) [] = At cursor None
+AreAllFrom At (Some cursor) (line ∷ lines) = (next : Option ℕ) × At cursor (Some (line, next)) × AreAllFrom At next lines
 
--- the lines are those before a place: with all from there on they are all lines
+-- the lines are those before a cursor: with all from there on they are all lines
 abbrev pub AreAllBefore : (ℕ → Option (Line × Option ℕ) → Type 0) → Option ℕ → List Line → Type 0
 AreAllBefore At next front = (rest : List Line) → AreAllFrom At next rest → AreAllFrom At (Some 0) (front ++ rest)

@@ -13,8 +13,8 @@ ghost use Rattle.report_spec.specs.Valid.{is_valid_verdict};
 ghost use Rattle.report_lines.specs.Findings.{AreFindings};
 ghost use Rattle.report_lines.specs.Lines.{Stands, AreAllFrom};
 
-/// What holds of the lines that stand at the places of a program: all of them make a report of it, by address or with
-/// contexts; from each place on there are such lines; and the verdicts are valid.
+/// What holds of the lines that stand at the cursors of a program: all of them make a report of it, by address or with
+/// contexts; from each cursor on there are such lines; and the verdicts are valid.
 pub fn report_laws()
     ensures report { (image : Image) (entry : ℕ) (g : Geometry) (contexts : Bool) (configurations : List Configuration)
         (nodes : List Node) (verdicts : List Verdict) (lines : List Line)
@@ -22,9 +22,9 @@ pub fn report_laws()
         → AreAllFrom (Stands contexts image configurations nodes verdicts) (Some 0) lines
         → IsReport image entry g contexts (text_of lines) }
     ensures rest { (image : Image) (entry : ℕ) (g : Geometry) (contexts : Bool) (configurations : List Configuration)
-        (nodes : List Node) (verdicts : List Verdict) (place : Option ℕ)
+        (nodes : List Node) (verdicts : List Verdict) (cursor : Option ℕ)
         → AreFindings image entry g configurations nodes verdicts
-        → (lines : List Line) × AreAllFrom (Stands contexts image configurations nodes verdicts) place lines }
+        → (lines : List Line) × AreAllFrom (Stands contexts image configurations nodes verdicts) cursor lines }
     ensures valid { (image : Image) (entry : ℕ) (g : Geometry) (configurations : List Configuration) (nodes : List Node)
         (verdicts : List Verdict) → AreFindings image entry g configurations nodes verdicts
         → IsTrue (list_all is_valid_verdict verdicts) }

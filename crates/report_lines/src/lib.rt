@@ -1,6 +1,6 @@
 //! What lines make a report.
 //!
-//! Where each node of an expanded program has a right verdict, the lines that follow one another from its first place
+//! Where each node of an expanded program has a right verdict, the lines that follow one another from its first cursor
 //! are a report, and there are such lines. Stands on the definitions of `node_spec` and `report_spec`, and on the
 //! paths of `call_expand`. The layer above gets a report from lines that it found one after another.
 #![tactic(auto)]

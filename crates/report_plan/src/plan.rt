@@ -1,4 +1,4 @@
-// The order of the nodes, and the line at a place.
+// The order of the nodes, and the line at a cursor.
 ghost use Rattle.std.specs.Prelude.{◌≡◌, ◌<◌, length, true, false, option_map, IfOk, IfSome};
 ghost use Rattle.elf_spec.specs.Word.{IsText};
 ghost use Rattle.node_spec.specs.Plan.{IsByAddress, IsByNumber, IsLineAt, IsLineOf, last_of};
@@ -56,10 +56,10 @@ impl Plan {
         &self.before
     }
 
-    /// The line at a place, and the place after it, if there is one. The plan is of this program, which has one verdict
+    /// The line at a cursor, and the cursor after it, if there is one. The plan is of this program, which has one verdict
     /// for each node. Where the verdicts are valid, so is the line.
     ///
-    /// With `contexts` a place is the number of a node, and the line is that node's. Else it is an address, and the line
+    /// With `contexts` a cursor is the number of a node, and the line is that node's. Else it is an address, and the line
     /// is that of the least address of the text from it on: the one verdict of all nodes there, or the whole range of
     /// words without nodes that begins there. `None` exactly where no node, or no address of the text, is left.
     ///

@@ -121,10 +121,10 @@ fn check(
     assert!(rt; verdicts.len() == expanded.graph().nodes().len());
     let found = plan.line(alloc, &image, &expanded, &verdicts, contexts, from)?;
     match (found, expected) {
-        (Some((line, next)), Some((text, place))) => {
+        (Some((line, next)), Some((text, cursor))) => {
             let shown = line_text(alloc, &line)?;
             assert!(rt; shown.as_str() == text, "at {from:x}: {shown}");
-            assert!(rt; next == place, "behind {from:x}");
+            assert!(rt; next == cursor, "behind {from:x}");
         }
         (None, None) => {}
         _ => assert!(rt; false, "at {from:x}"),

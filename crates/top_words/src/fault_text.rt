@@ -26,7 +26,7 @@ pub fn text_of(status: &Status) -> ShortText
 /// Sends the text of a status, line end included, to where faults are explained. Where that fails it stays at a prefix of the
 /// text, and nothing is sent again.
 pub fn explain<E: Sink>(err: &mut E, status: &Status)
-    ensures { Reports E.sent E.faults E.refusals E.writes (fault_text status.now) err.old err.new }
+    ensures { Reports E.Sink (fault_text status.now) err.old err.new }
 {
     let _ = send_all(err, text_of(status).as_bytes());
 }

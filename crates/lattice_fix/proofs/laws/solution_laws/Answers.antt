@@ -10,8 +10,8 @@ returns-clause-above g c = λ nodes before n earlier x graph solution path is.
 pub returns-clause-unique : goal.returns-clause-unique
 returns-clause-unique g c = λ nodes one two a b.
     let s = g.D.Domain.state c.args.domain.now in
-    least_same (g.D.Domain.framework (g.D.Domain.setting s)) (g.met.D.Domain.monotone c.args.domain.now) nodes one two a
-    b
+    least_same (g.D.Domain.framework (g.D.Domain.setting s)) (g.met.D.Domain.monotone c.args.domain.now) nodes one two
+    a b
 
 pub returns-clause-over_paths : goal.returns-clause-over_paths
 returns-clause-over_paths g c = λ nodes changes before n x bound distributive replay is carrier below.

@@ -10,21 +10,6 @@ use Rattle.lattice_fix.proofs.solver.give.Given.{Over}
 use Rattle.lattice_fix.proofs.solver.give.Goals as goal
 use Rattle.lattice_fix.proofs.solver.give.Goals.{After-note}
 
-pub index_mut-requires : goal.index_mut-requires
-index_mut-requires g c =
-    let slots = have_slots c.requires.under_way c.args.from c.args.to c.requires.edge in
-    omega (arith, slots.to)
-
-pub receive-requires-clause-slot : goal.receive-requires-clause-slot
-receive-requires-clause-slot g c = λ v is.
-    let slots = have_slots c.requires.under_way c.args.from c.args.to c.requires.edge in
-    let slot = c.index_mut.result.now in
-    c.requires.under_way.fit c.args.to v
-    (sym (get_or_read c.args.work.now.values.items c.args.to slot slots.to c.index_mut.ensures.value None) ∙ is)
-
-pub note-requires : goal.note-requires
-note-requires g c = (have_slots c.requires.under_way c.args.from c.args.to c.requires.edge).flag
-
 module _ (g : Over) (c : After-note g) where
   -- the slot is there
   slots : HaveSlots c.args.work.now.values.items c.args.work.now.waiting c.args.from c.args.to
@@ -47,6 +32,21 @@ module _ (g : Over) (c : After-note g) where
       c.requires.under_way c.args.from c.args.to c.requires.edge c.args.moved c.requires.moved
       c.in-Ok.raised c.index_mut.result.now c.receive.new.slot found c.in-Ok.ensures.received
       (ap (λ values. values.items) c.note.ensures.values) noted
+
+pub index_mut-requires : goal.index_mut-requires
+index_mut-requires g c =
+    let slots = have_slots c.requires.under_way c.args.from c.args.to c.requires.edge in
+    omega (arith, slots.to)
+
+pub receive-requires-clause-slot : goal.receive-requires-clause-slot
+receive-requires-clause-slot g c = λ v is.
+    let slots = have_slots c.requires.under_way c.args.from c.args.to c.requires.edge in
+    let slot = c.index_mut.result.now in
+    c.requires.under_way.fit c.args.to v
+    (sym (get_or_read c.args.work.now.values.items c.args.to slot slots.to c.index_mut.ensures.value None) ∙ is)
+
+pub note-requires : goal.note-requires
+note-requires g c = (have_slots c.requires.under_way c.args.from c.args.to c.requires.edge).flag
 
 pub returns-in-Ok-clause-advances : goal.returns-in-Ok-clause-advances
 returns-in-Ok-clause-advances g c =

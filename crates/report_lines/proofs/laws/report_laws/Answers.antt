@@ -7,8 +7,8 @@ pub returns : goal.returns
 returns c = record {
   report = λ image entry g contexts configurations nodes verdicts lines found all.
       report image entry g configurations nodes verdicts found contexts lines all;
-  rest = λ image entry g contexts configurations nodes verdicts place found.
-      rest image entry g configurations nodes verdicts found contexts place;
+  rest = λ image entry g contexts configurations nodes verdicts cursor found.
+      rest image entry g configurations nodes verdicts found contexts cursor;
   valid = λ image entry g configurations nodes verdicts found. right_valid nodes g verdicts
       (λ n below. found.right n (omega (arith, below, found.one_each)));
 }

@@ -16,8 +16,8 @@ inside g c = subst (λ (values : List g.row.V.Denot). c.args.node < length value
     (sym (ap (λ solved. solved.values) c.self.view_is)) c.requires.inside
 
 -- its slot has the value
-slot : (g : Over) (c : After-self g)
-    → value_at c.self.inside.values.items c.args.node ≡ slice_get (somes c.self.inside.values.items) c.args.node
+slot : (g : Over) (c : After-self g) →
+    value_at c.self.inside.values.items c.args.node ≡ slice_get (somes c.self.inside.values.items) c.args.node
 slot g c = ap (λ (slots : List (Option g.row.V.Denot)). value_at slots c.args.node) (sym c.self.invariant)
     ∙ value_at-filled (somes c.self.inside.values.items) c.args.node
 
@@ -33,8 +33,10 @@ unreachable-requires g d =
     let lt = inside g c in
     let within : c.args.node < length slots = omega (arith, lt, length-somes slots c.self.invariant) in
     let value = found-inside (somes slots) c.args.node lt in
-    absurd (none-some value.0 (sym (sym (get_or_read slots c.args.node d.index.result.now within d.index.ensures None)
-    ∙ d.in-None.is) ∙ (slot g c ∙ value.1)))
+    absurd
+    (none-some value.0
+    (sym (sym (get_or_read slots c.args.node d.index.result.now within d.index.ensures None) ∙ d.in-None.is)
+    ∙ (slot g c ∙ value.1)))
 
 pub returns : goal.returns
 returns g d =
@@ -42,7 +44,8 @@ returns g d =
     let slots : List (Option g.row.V.Denot) = c.self.inside.values.items in
     let lt = inside g c in
     let within : c.args.node < length slots = omega (arith, lt, length-somes slots c.self.invariant) in
-    let is : slice_get (somes slots) c.args.node ≡ Some d.in-Some.value = sym (slot g c)
+    let is : slice_get (somes slots) c.args.node ≡ Some d.in-Some.value =
+    sym (slot g c)
     ∙ (sym (get_or_read slots c.args.node d.index.result.now within d.index.ensures None) ∙ d.in-Some.is) in
     record {
       value = subst (λ (values : List g.row.V.Denot). slice_get values c.args.node ≡ Some d.in-Some.value)
