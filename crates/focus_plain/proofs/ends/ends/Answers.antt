@@ -5,7 +5,7 @@ use Rattle.std.specs.Option.{is_some}
 use Rattle.std.specs.Prelude.{slice_get}
 use Rattle.path_trail.specs.Trail.{node_at}
 use Rattle.focus_plain.specs.declared.search.Entry.{Entry}
-use Rattle.focus_plain.specs.Entries.{trail_of, place_of}
+use Rattle.focus_plain.specs.Entries.{trail_of, index_of}
 use Rattle.focus_plain.specs.Ends.{AreEnds, IsNoted}
 use Rattle.focus_plain.proofs.Links.{node-read}
 use Rattle.focus_plain.proofs.Equals.{same_tests, other_tests}
@@ -36,8 +36,8 @@ loop-index-preserved c =
     let inside : c.loop-index.index < length entries = omega (arith, c.loop-index-test.true) in
     let found : slice_get entries c.loop-index.index ≡ Some entry =
     slice_get-get_or entries c.loop-index.index _ inside in
-    let there : c.is_some.result ≡ is_some (place_of (slice_get entries c.loop-index.index)) =
-    c.is_some.ensures ∙ sym (ap (λ (o : Option Entry). is_some (place_of o)) found) in
+    let there : c.is_some.result ≡ is_some (index_of (slice_get entries c.loop-index.index)) =
+    c.is_some.ensures ∙ sym (ap (λ (o : Option Entry). is_some (index_of o)) found) in
     elim c.if-is_some-small.branch [
       | then-is_some-small w ↦
           let as_long : length w.note.new.ends ≡ length c.loop-index.ends.items =

@@ -9,9 +9,9 @@ use Rattle.focus_plain.proofs.reach.with_other.Goals as goal
 
 pub returns-then-has-clause-value : goal.returns-then-has-clause-value
 returns-then-has-clause-value c =
-    let set : List ℕ = get_or c.args.sets.now c.args.place [] in
+    let set : List ℕ = get_or c.args.sets.now c.args.index [] in
     let is : c.items-numbers.result.now ≡ set =
-    c.items-numbers.ensures.value ∙ get_or_read _ _ _ c.requires.inside c.index-sets-place.is [] in
+    c.items-numbers.ensures.value ∙ get_or_read _ _ _ c.requires.inside c.index-sets-index.is [] in
     let P : List ℕ → Type 0 = λ s. Contains s c.args.other in
     ap (reached_set c.args.sets.now) c.alone.ensures
     ∙ cut-present c.args.ways c.args.other set (subst (λ (s : List ℕ). IsStrictlyIncreasing s) is
@@ -19,9 +19,9 @@ returns-then-has-clause-value c =
 
 pub returns-then-numbers-ways-clause-value : goal.returns-then-numbers-ways-clause-value
 returns-then-numbers-ways-clause-value c =
-    let set : List ℕ = get_or c.args.sets.now c.args.place [] in
+    let set : List ℕ = get_or c.args.sets.now c.args.index [] in
     let is : c.items-numbers.result.now ≡ set =
-    c.items-numbers.ensures.value ∙ get_or_read _ _ _ c.requires.inside c.index-sets-place.is [] in
+    c.items-numbers.ensures.value ∙ get_or_read _ _ _ c.requires.inside c.index-sets-index.is [] in
     let P : List ℕ → Type 0 = λ s. Contains s c.args.other in
     cut-longer c.args.ways c.args.other set (λ there. both_ways c.has.result c.if-has.false
     (c.has.ensures.1 (subst P (sym is) there)))
@@ -29,9 +29,9 @@ returns-then-numbers-ways-clause-value c =
 
 pub returns-clause-value : goal.returns-clause-value
 returns-clause-value c =
-    let set : List ℕ = get_or c.args.sets.now c.args.place [] in
+    let set : List ℕ = get_or c.args.sets.now c.args.index [] in
     let is : c.items-numbers.result.now ≡ set =
-    c.items-numbers.ensures.value ∙ get_or_read _ _ _ c.requires.inside c.index-sets-place.is [] in
+    c.items-numbers.ensures.value ∙ get_or_read _ _ _ c.requires.inside c.index-sets-index.is [] in
     let P : List ℕ → Type 0 = λ s. Contains s c.args.other in
     cut-too_long c.args.ways c.args.other set (λ there. both_ways c.has.result c.if-has.false
     (c.has.ensures.1 (subst P (sym is) there)))

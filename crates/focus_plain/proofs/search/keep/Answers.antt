@@ -9,18 +9,18 @@ use Rattle.focus_plain.proofs.search.keep.Goals as goal
 
 pub longer-requires : goal.longer-requires
 longer-requires c =
-    let inside : c.in-Some.field-0.place < length c.args.sets.now.items =
+    let inside : c.in-Some.field-0.index < length c.args.sets.now.items =
     subst (λ (o : Option Reach). IsReachable c.args.sets.now.items o) c.in-Some.is c.requires.reached in
-    subst (λ (s : List ℕ). IsStrictlyIncreasing s) (sym (get_or_read c.args.sets.now.items c.in-Some.field-0.place
+    subst (λ (s : List ℕ). IsStrictlyIncreasing s) (sym (get_or_read c.args.sets.now.items c.in-Some.field-0.index
     c.index.result.now inside c.index.ensures []))
-    (c.requires.rising c.in-Some.field-0.place inside)
+    (c.requires.rising c.in-Some.field-0.index inside)
 
 pub returns-clause-value : goal.returns-clause-value
 returns-clause-value c =
-    let inside : c.in-Some.field-0.place < length c.args.sets.now.items =
+    let inside : c.in-Some.field-0.index < length c.args.sets.now.items =
     subst (λ (o : Option Reach). IsReachable c.args.sets.now.items o) c.in-Some.is c.requires.reached in
-    let read : c.index.result.now ≡ get_or c.args.sets.now.items c.in-Some.field-0.place [] =
-    get_or_read c.args.sets.now.items c.in-Some.field-0.place c.index.result.now inside c.index.ensures [] in
+    let read : c.index.result.now ≡ get_or c.args.sets.now.items c.in-Some.field-0.index [] =
+    get_or_read c.args.sets.now.items c.in-Some.field-0.index c.index.result.now inside c.index.ensures [] in
     keeps-value c.args.sets.now.items c.push.new.self.items c.args.reached c.in-Some.field-0 c.in-Some-more.number
     c.len-kept.result c.in_ok-longer.longer c.in-Some.is (cc)
     (c.in_ok-longer.ensures.value ∙ ap (with_number c.in-Some-more.number) read) c.in_ok-push.ensures.items
