@@ -13,7 +13,7 @@ use Rattle.set_list.specs.RisingSets.{rising-empty}
 use Rattle.focus_plain.specs.declared.search.Entry.{Entry}
 use Rattle.focus_plain.specs.declared.search.Search.{Search}
 use Rattle.focus_plain.specs.Cut.{behind}
-use Rattle.focus_plain.specs.Entries.{IsPlace, trail_of, seen_of, seen_at, latest_at, next_of, place_of, IsSound, IsCourse, IsBetween, IsSpread}
+use Rattle.focus_plain.specs.Entries.{IsIndex, trail_of, seen_of, seen_at, latest_at, next_of, index_of, IsSound, IsCourse, IsBetween, IsSpread}
 use Rattle.focus_plain.specs.Search.{AreLinked, IsSearch, Extends, AreRising}
 use Rattle.focus_plain.proofs.Course.{node_at-front}
 use Rattle.focus_plain.proofs.Links.{length-trail, length-seen}
@@ -24,9 +24,9 @@ abbrev pub start : Entry
 start = record { node = 0; younger = None; earlier = None; next = None }
 
 -- the first set rises
-one_rises : (place : ℕ) → IsStrictlyIncreasing (get_or ([] ∷ []) place [])
+one_rises : (index : ℕ) → IsStrictlyIncreasing (get_or ([] ∷ []) index [])
 one_rises zero = rising-empty
-one_rises (suc place) = rising-empty
+one_rises (suc index) = rising-empty
 
 -- the course of the path of node 0 alone
 course_begun : (view : View) (block : ℕ) (sets : List (List ℕ))
@@ -88,9 +88,9 @@ module _ (search : Search) (count : ℕ) (some : 1 ≤ count) (entries : search.
     few = omega (arith, ap length entries);
     few_sets = omega (arith, ap length entries, ap length sets);
     first = ap (λ (s : List (List ℕ)). slice_get s 0) sets;
-    rising = subst AreRising (sym sets) (λ place inside. one_rises place);
-    places = subst (λ (es : List Entry). (number : ℕ) → number < length es → IsPlace search.sets.items
-        (place_of (slice_get es number))) (sym entries) places;
+    rising = subst AreRising (sym sets) (λ index inside. one_rises index);
+    indices = subst (λ (es : List Entry). (number : ℕ) → number < length es → IsIndex search.sets.items
+        (index_of (slice_get es number))) (sym entries) indices;
     inside = subst (λ (es : List Entry). (number : ℕ) → number < length es → node_at (trail_of es) number < length
         search.latest.items) (sym entries) inside;
     latest = λ n number found.
@@ -105,9 +105,9 @@ module _ (search : Search) (count : ℕ) (some : 1 ≤ count) (entries : search.
         → (other < number) × (node_at (trail_of es) other ≡ node_at (trail_of es) number)) (sym entries) next;
   }
     where
-      places : (number : ℕ) → number < 1 → IsPlace search.sets.items (place_of (slice_get (start ∷ []) number))
-      places zero inside = tt
-      places (suc number) inside = absurd (omega arith)
+      indices : (number : ℕ) → number < 1 → IsIndex search.sets.items (index_of (slice_get (start ∷ []) number))
+      indices zero inside = tt
+      indices (suc number) inside = absurd (omega arith)
 
       inside : (number : ℕ) → number < 1 → node_at (trail_of (start ∷ [])) number < length search.latest.items
       inside zero here = omega (arith, latest_long, some)

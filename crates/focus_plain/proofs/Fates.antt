@@ -19,7 +19,7 @@ use Rattle.set_view.specs.View.{View}
 use Rattle.focus_plain.specs.declared.search.Entry.{Entry}
 use Rattle.focus_plain.specs.declared.ends.Found.{Found}
 use Rattle.focus_plain.specs.Cut.{IsBelow, left_by}
-use Rattle.focus_plain.specs.Entries.{set_at, trail_of, seen_of, seen_at, latest_at, place_of, IsBetween, IsSpread}
+use Rattle.focus_plain.specs.Entries.{set_at, trail_of, seen_of, seen_at, latest_at, index_of, IsBetween, IsSpread}
 use Rattle.focus_plain.specs.Ends.{IsFound, ends_of}
 use Rattle.focus_plain.proofs.Order.{small-cut}
 use Rattle.focus_plain.proofs.Course.{paths_between}
@@ -39,17 +39,17 @@ chain_unique trail (x ∷ xs) (y ∷ ys) (Some number) one two =
     let rest : xs ≡ ys = chain_unique trail xs ys (earlier_at trail number) one.1 two.1 in
     cc
 
--- what an entry has seen is the set at its place
-seen-place : (sets : List (List ℕ)) (entries : List Entry) (number : ℕ)
-    → seen_at (seen_of sets entries) number ≡ set_at sets (place_of (slice_get entries number))
-seen-place sets [] number = refl
-seen-place sets (entry ∷ entries) zero = refl
-seen-place sets (entry ∷ entries) (suc number) = seen-place sets entries number
+-- what an entry has seen is the set at its index
+seen-index : (sets : List (List ℕ)) (entries : List Entry) (number : ℕ)
+    → seen_at (seen_of sets entries) number ≡ set_at sets (index_of (slice_get entries number))
+seen-index sets [] number = refl
+seen-index sets (entry ∷ entries) zero = refl
+seen-index sets (entry ∷ entries) (suc number) = seen-index sets entries number
 
--- it is there where the place is
-is_some-set_at : (sets : List (List ℕ)) (place : Option ℕ) → is_some (set_at sets place) ≡ is_some place
+-- it is there where the index is
+is_some-set_at : (sets : List (List ℕ)) (index : Option ℕ) → is_some (set_at sets index) ≡ is_some index
 is_some-set_at sets None = refl
-is_some-set_at sets (Some place) = refl
+is_some-set_at sets (Some index) = refl
 
 -- what lies above an absent set is absent
 above_none : (one two : Option (List ℕ)) → IsBelow one two → is_some one ≡ false → is_some two ≡ false
@@ -94,11 +94,11 @@ module _ (view : View) (found : Found) (is : IsFound view found) (law : HitsWher
   hit-left earlier path =
       law n earlier path fetches ∙ small-cut view.geometry.ways (younger_after view.fetches found.block earlier)
 
-  -- an entry has seen a set where it has a place
-  seen-there : (number : ℕ) → is_some (seen_at seen number) ≡ is_some (place_of (slice_get entries number))
+  -- an entry has seen a set where it has an index
+  seen-there : (number : ℕ) → is_some (seen_at seen number) ≡ is_some (index_of (slice_get entries number))
   seen-there number =
-      ap is_some (seen-place found.search.sets.items entries number)
-      ∙ is_some-set_at found.search.sets.items (place_of (slice_get entries number))
+      ap is_some (seen-index found.search.sets.items entries number)
+      ∙ is_some-set_at found.search.sets.items (index_of (slice_get entries number))
 
   -- what each path to the node leaves lies between what two entries there have seen
   between : (earlier : List ℕ) → IsPath (graph_step view.nodes) 0 (n ∷ earlier)
@@ -134,7 +134,7 @@ module _ (view : View) (found : Found) (is : IsFound view found) (law : HitsWher
   none_small none earlier path =
       let low = (between earlier path).below in
       let inside : low.0 < length entries = omega (arith, low.1, length-trail entries) in
-      hit-left earlier path ∙ elim (cases_Bool (is_some (place_of (slice_get entries low.0)))) [
+      hit-left earlier path ∙ elim (cases_Bool (is_some (index_of (slice_get entries low.0)))) [
         | inl small ↦
             let there = (is.ends true).complete low.0 inside small in
             absurd (none-some there.0 (sym none ∙ sym (ap (latest_at found.hits.items) low.2) ∙ there.1))
@@ -147,7 +147,7 @@ module _ (view : View) (found : Found) (is : IsFound view found) (law : HitsWher
   none_large none earlier path =
       let high = (between earlier path).above in
       let inside : high.0 < length entries = omega (arith, high.1, length-trail entries) in
-      hit-left earlier path ∙ elim (cases_Bool (is_some (place_of (slice_get entries high.0)))) [
+      hit-left earlier path ∙ elim (cases_Bool (is_some (index_of (slice_get entries high.0)))) [
         | inl small ↦
             below_some (left_by view found.block earlier) (seen_at seen high.0) high.3 (seen-there high.0 ∙ small)
         | inr large ↦

@@ -54,7 +54,8 @@ fetchers_more fetches block count nodes more are fetched more_is =
         ],
         λ is. elim (cases_eq count n) [
           | inl last ↦ subst (Contains (nodes ++ count ∷ [])) last (Contains-push nodes count)
-          | inr before ↦ Contains-append_left nodes (count ∷ []) n ((are.members n).1 (omega (arith, is.0, before), is.1))
+          | inr before ↦
+              Contains-append_left nodes (count ∷ []) n ((are.members n).1 (omega (arith, is.0, before), is.1))
         ],
       );
     })

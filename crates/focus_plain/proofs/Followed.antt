@@ -11,22 +11,22 @@ use Rattle.set_view.specs.View.{View}
 use Rattle.focus_plain.specs.declared.search.Entry.{Entry}
 use Rattle.focus_plain.specs.declared.search.Search.{Search}
 use Rattle.focus_plain.specs.Cut.{behind}
-use Rattle.focus_plain.specs.Entries.{IsPlace, set_at, trail_entry, trail_of, seen_of, seen_at, latest_at, next_of, place_of, IsCourse, IsBetween}
+use Rattle.focus_plain.specs.Entries.{IsIndex, set_at, trail_entry, trail_of, seen_of, seen_at, latest_at, next_of, index_of, IsCourse, IsBetween}
 use Rattle.focus_plain.specs.Search.{IsLonger, AreLinked, IsSearch, Extends, IsAdded, IsFollowed}
 use Rattle.focus_plain.proofs.Course.{slice_get-front, slice_get-behind, course_more, between_new, between_kept}
-use Rattle.focus_plain.proofs.Table.{set_at-longer, place-longer, longer-grows}
+use Rattle.focus_plain.proofs.Table.{set_at-longer, index-longer, longer-grows}
 use Rattle.focus_plain.proofs.Links.{length-trail}
 
 -- with more sets the entries have seen the same
 seen_of-longer : (sets new : List (List ℕ)) (entries : List Entry) → IsLonger sets new
-    → ((number : ℕ) → number < length entries → IsPlace sets (place_of (slice_get entries number)))
+    → ((number : ℕ) → number < length entries → IsIndex sets (index_of (slice_get entries number)))
     → seen_of new entries ≡ seen_of sets entries
-seen_of-longer sets new [] longer places = refl
-seen_of-longer sets new (entry ∷ entries) longer places =
+seen_of-longer sets new [] longer indices = refl
+seen_of-longer sets new (entry ∷ entries) longer indices =
     let first : set_at new entry.younger ≡ set_at sets entry.younger =
-    set_at-longer sets new entry.younger longer (places 0 (omega arith)) in
+    set_at-longer sets new entry.younger longer (indices 0 (omega arith)) in
     let rest : seen_of new entries ≡ seen_of sets entries =
-    seen_of-longer sets new entries longer (λ number inside. places (suc number) (omega arith)) in
+    seen_of-longer sets new entries longer (λ number inside. indices (suc number) (omega arith)) in
     cc
 
 module _ (view : View) (block : ℕ) (old new : Search) (is : IsSearch view block old) (from to : ℕ)
@@ -37,7 +37,7 @@ module _ (view : View) (block : ℕ) (old new : Search) (is : IsSearch view bloc
     (seen_at (seen_of old.sets.items old.entries.items) from))) where
   -- the entry that was added
   abbrev entry : Entry
-  entry = record { node = to; younger = added.place; earlier = Some from; next = latest_at old.latest.items to }
+  entry = record { node = to; younger = added.index; earlier = Some from; next = latest_at old.latest.items to }
 
   -- what it has seen
   abbrev younger : Option (List ℕ)
@@ -57,8 +57,8 @@ module _ (view : View) (block : ℕ) (old new : Search) (is : IsSearch view bloc
   seen_is =
       ap (seen_of new.sets.items) added.entries
       ∙ map-append (λ (e : Entry). set_at new.sets.items e.younger) old.entries.items (entry ∷ [])
-      ∙ ap (λ (seen : List (Option (List ℕ))). seen ++ set_at new.sets.items added.place ∷ [])
-      (seen_of-longer old.sets.items new.sets.items old.entries.items sets_longer is.linked.places)
+      ∙ ap (λ (seen : List (Option (List ℕ))). seen ++ set_at new.sets.items added.index ∷ [])
+      (seen_of-longer old.sets.items new.sets.items old.entries.items sets_longer is.linked.indices)
       ∙ ap (λ (o : Option (List ℕ)). seen_of old.sets.items old.entries.items ++ o ∷ []) added.value
 
   -- there is one entry more
@@ -145,12 +145,12 @@ module _ (view : View) (block : ℕ) (old new : Search) (is : IsSearch view bloc
         first = ap (λ (s : List (List ℕ)). slice_get s 0) sets_longer.1
             ∙ slice_get-front old.sets.items sets_longer.0 0 some ∙ is.linked.first;
         rising = added.rising;
-        places = λ number inside. elim (old_or_new number inside) [
-          | inl before ↦ place-longer old.sets.items new.sets.items (place_of (slice_get new.entries.items number))
+        indices = λ number inside. elim (old_or_new number inside) [
+          | inl before ↦ index-longer old.sets.items new.sets.items (index_of (slice_get new.entries.items number))
               sets_longer
-              (subst (λ (o : Option Entry). IsPlace old.sets.items (place_of o)) (sym (old_entry number before))
-              (is.linked.places number before))
-          | inr last ↦ subst (λ (o : Option Entry). IsPlace new.sets.items (place_of o)) (sym (new_entry number last))
+              (subst (λ (o : Option Entry). IsIndex old.sets.items (index_of o)) (sym (old_entry number before))
+              (is.linked.indices number before))
+          | inr last ↦ subst (λ (o : Option Entry). IsIndex new.sets.items (index_of o)) (sym (new_entry number last))
               added.kept
         ];
         inside = λ number inside.

@@ -7,7 +7,7 @@ use Rattle.path_trail.specs.Trail.{node_of, node_at}
 use Rattle.focus_plain.specs.declared.search.Entry.{Entry}
 use Rattle.focus_plain.specs.declared.search.Search.{Search}
 use Rattle.focus_plain.specs.Cut.{IsBelow}
-use Rattle.focus_plain.specs.Entries.{IsPlace, HasBelow, HasAbove, set_at, trail_entry, trail_of, seen_of, seen_at, next_of, place_of}
+use Rattle.focus_plain.specs.Entries.{IsIndex, HasBelow, HasAbove, set_at, trail_entry, trail_of, seen_of, seen_at, next_of, index_of}
 use Rattle.focus_plain.specs.Search.{AreLinked}
 
 -- how many entries may still come
@@ -35,12 +35,12 @@ seen-read sets (first ∷ entries) zero entry is = let same : first ≡ entry =
     cc in ap (λ (e : Entry). set_at sets e.younger) same
 seen-read sets (first ∷ entries) (suc number) entry is = seen-read sets entries number entry is
 
--- the place of its younger set is one of the table's
-pub place-read : (search : Search) (number : ℕ) (entry : Entry) → AreLinked search
+-- the index of its younger set is one of the table's
+pub index-read : (search : Search) (number : ℕ) (entry : Entry) → AreLinked search
     → number < length search.entries.items
-    → slice_get search.entries.items number ≡ Some entry → IsPlace search.sets.items entry.younger
-place-read search number entry linked inside is =
-    subst (λ (o : Option Entry). IsPlace search.sets.items (place_of o)) is (linked.places number inside)
+    → slice_get search.entries.items number ≡ Some entry → IsIndex search.sets.items entry.younger
+index-read search number entry linked inside is =
+    subst (λ (o : Option Entry). IsIndex search.sets.items (index_of o)) is (linked.indices number inside)
 
 -- the entries at a node are linked
 pub next-read : (search : Search) (number : ℕ) (entry : Entry) (other n : ℕ) → AreLinked search

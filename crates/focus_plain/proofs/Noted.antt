@@ -7,7 +7,7 @@ use Rattle.std.specs.Option.{is_some}
 use Rattle.std.specs.Prelude.{slice_get, slice_set}
 use Rattle.path_trail.specs.Trail.{node_at}
 use Rattle.focus_plain.specs.declared.search.Entry.{Entry}
-use Rattle.focus_plain.specs.Entries.{trail_of, latest_at, place_of}
+use Rattle.focus_plain.specs.Entries.{trail_of, latest_at, index_of}
 use Rattle.focus_plain.specs.Ends.{AreEnds, IsNoted}
 
 -- what tests as absent is absent
@@ -54,7 +54,7 @@ noted_same ends node number first found =
 -- one entry more, which is noted
 pub ends_noted : (entries : List Entry) (index : ℕ) (small : Bool) (old new : List (Option ℕ))
     → AreEnds entries index small old
-    → is_some (place_of (slice_get entries index)) ≡ small → IsNoted old new (node_at (trail_of entries) index) index
+    → is_some (index_of (slice_get entries index)) ≡ small → IsNoted old new (node_at (trail_of entries) index) index
     → AreEnds entries (index + 1) small new
 ends_noted entries index small old new ends same noted = record {
   sound = λ n number found. elim (noted.only n number found) [
@@ -64,7 +64,7 @@ ends_noted entries index small old new ends same noted = record {
     | inr now ↦ (
       omega (arith, now.1),
       ap (node_at (trail_of entries)) now.1 ∙ sym now.0,
-      ap (λ (k : ℕ). is_some (place_of (slice_get entries k))) now.1 ∙ same,
+      ap (λ (k : ℕ). is_some (index_of (slice_get entries k))) now.1 ∙ same,
     )
   ];
   complete = λ number below is. elim (cases_eq index number) [
@@ -79,13 +79,13 @@ ends_noted entries index small old new ends same noted = record {
 -- one entry more, which is passed over
 pub ends_passed : (entries : List Entry) (index : ℕ) (small : Bool) (ends : List (Option ℕ))
     → AreEnds entries index small ends
-    → is_some (place_of (slice_get entries index)) ≢ small → AreEnds entries (index + 1) small ends
+    → is_some (index_of (slice_get entries index)) ≢ small → AreEnds entries (index + 1) small ends
 ends_passed entries index small ends are other = record {
   sound = λ n number found.
       let is = are.sound n number found in
       (omega (arith, is.0), is.1, is.2);
   complete = λ number below is. elim (cases_eq index number) [
-    | inl last ↦ absurd (other (ap (λ (k : ℕ). is_some (place_of (slice_get entries k))) last ∙ is))
+    | inl last ↦ absurd (other (ap (λ (k : ℕ). is_some (index_of (slice_get entries k))) last ∙ is))
     | inr before ↦ are.complete number (omega arith) is
   ];
 }

@@ -56,23 +56,23 @@ more_within set larger one has within = λ x there. elim ((Contains-with_number 
 ]
 
 -- what is reached with a set of the table is above that set
-pub below-same : (sets : List (List ℕ)) (younger : Option ℕ) (reach : Option Reach) (place : ℕ) (r : Reach)
-    → younger ≡ Some place → reach ≡ Some r → place ≡ r.place
+pub below-same : (sets : List (List ℕ)) (younger : Option ℕ) (reach : Option Reach) (index : ℕ) (r : Reach)
+    → younger ≡ Some index → reach ≡ Some r → index ≡ r.index
     → IsBelow (set_at sets younger) (reached_set sets reach)
-below-same sets younger reach place r younger_is reach_is same =
-    let at : set_at sets younger ≡ Some (get_or sets r.place []) = ap (set_at sets) (younger_is ∙ ap Some same) in
+below-same sets younger reach index r younger_is reach_is same =
+    let at : set_at sets younger ≡ Some (get_or sets r.index []) = ap (set_at sets) (younger_is ∙ ap Some same) in
     subst (IsBelow (set_at sets younger)) (sym (ap (reached_set sets) reach_is))
-    (subst (λ (o : Option (List ℕ)). IsBelow o (Some (with_more r.more (get_or sets r.place [])))) (sym at)
-    (below_more (get_or sets r.place []) r.more))
+    (subst (λ (o : Option (List ℕ)). IsBelow o (Some (with_more r.more (get_or sets r.index [])))) (sym at)
+    (below_more (get_or sets r.index []) r.more))
 
 -- with a number that the set has, the set is still above
-pub above-more : (sets : List (List ℕ)) (younger : Option ℕ) (reach : Option Reach) (place : ℕ) (r : Reach) (number : ℕ)
-    → younger ≡ Some place → reach ≡ Some r → r.more ≡ Some number
-    → Contains (get_or sets place []) number → IsBelow (Some (get_or sets r.place [])) (Some (get_or sets place []))
+pub above-more : (sets : List (List ℕ)) (younger : Option ℕ) (reach : Option Reach) (index : ℕ) (r : Reach) (number : ℕ)
+    → younger ≡ Some index → reach ≡ Some r → r.more ≡ Some number
+    → Contains (get_or sets index []) number → IsBelow (Some (get_or sets r.index [])) (Some (get_or sets index []))
     → IsBelow (reached_set sets reach) (set_at sets younger)
-above-more sets younger reach place r number younger_is reach_is more_is has within =
-    let at : reached_set sets reach ≡ Some (with_number number (get_or sets r.place [])) =
-    ap (reached_set sets) reach_is ∙ ap (λ more. Some (with_more more (get_or sets r.place []))) more_is in
+above-more sets younger reach index r number younger_is reach_is more_is has within =
+    let at : reached_set sets reach ≡ Some (with_number number (get_or sets r.index [])) =
+    ap (reached_set sets) reach_is ∙ ap (λ more. Some (with_more more (get_or sets r.index []))) more_is in
     subst (IsBelow (reached_set sets reach)) (sym (ap (set_at sets) younger_is))
-    (subst (λ (o : Option (List ℕ)). IsBelow o (Some (get_or sets place []))) (sym at)
-    (more_within (get_or sets r.place []) (get_or sets place []) number has within))
+    (subst (λ (o : Option (List ℕ)). IsBelow o (Some (get_or sets index []))) (sym at)
+    (more_within (get_or sets r.index []) (get_or sets index []) number has within))

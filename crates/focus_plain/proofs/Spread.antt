@@ -30,6 +30,15 @@ small-read view block trail seen number course inside =
     let P : Option (List ℕ) → Type 0 = λ o. cut view.geometry.ways o ≡ o in
     subst P (course.sound number inside).2 (cut-cut view.geometry.ways _)
 
+-- both edges of an entry's node are followed, and what they lead to lies between entries
+pub record AreStepped (view : View) (block : ℕ) (old new : Search) (index : ℕ) : Type 0 where
+  pub search : IsSearch view block new
+  pub extends : Extends old new
+  pub between : (m : ℕ) → IsSuccessor (graph_step view.nodes) (node_at (trail_of old.entries.items) index) m
+      → IsBetween (trail_of new.entries.items) (seen_of new.sets.items new.entries.items) m
+      (behind view block (node_at (trail_of old.entries.items) index)
+      (seen_at (seen_of old.sets.items old.entries.items) index))
+
 module _ (view : View) (block : ℕ) (old : Search) (is : IsSearch view block old) (index : ℕ)
     (inside : index < length old.entries.items)
     (entry : Entry) (read : entry ≡ get_or old.entries.items index entry) where
@@ -150,42 +159,38 @@ module _ (view : View) (block : ℕ) (old : Search) (is : IsSearch view block ol
           -- the second edge
           second_edge : (m : ℕ) → node.second ≡ Some m
               → IsSuccessor (graph_step view.nodes) (node_at (trail_of old.entries.items) index) m
-          second_edge m at = successor-from_node view.nodes (node_at (trail_of old.entries.items) index) m node node_found
-              (inr at)
+          second_edge m at = successor-from_node view.nodes (node_at (trail_of old.entries.items) index) m node
+              node_found (inr at)
 
-          module _ (new : Search) (second : IsFollowed middle new index node.second (reached_set middle.sets.items reached))
-            where
-              -- the second edge is followed from there
-              second_stepped : IsStepped view block middle new node.second (reached_set middle.sets.items reached)
-              second_stepped =
-                  stepped view block middle new index node.second (reached_set middle.sets.items reached) first_stepped.search
-                  inside_still
-                  (λ m at. subst (λ (n : ℕ). IsSuccessor (graph_step view.nodes) n m) (sym node_still) (second_edge m at))
-                  (λ m at. omega (arith, ends m (second_edge m at), first_stepped.search.one_each))
-                  value_still second
+          module _ (new : Search)
+              (second : IsFollowed middle new index node.second (reached_set middle.sets.items reached)) where
+            -- the second edge is followed from there
+            second_stepped : IsStepped view block middle new node.second (reached_set middle.sets.items reached)
+            second_stepped =
+                stepped view block middle new index node.second (reached_set middle.sets.items reached)
+                first_stepped.search inside_still
+                (λ m at. subst (λ (n : ℕ). IsSuccessor (graph_step view.nodes) n m) (sym node_still)
+                (second_edge m at))
+                (λ m at. omega (arith, ends m (second_edge m at), first_stepped.search.one_each))
+                value_still second
 
-              -- the search holds
-              pub spread_search : IsSearch view block new
-              spread_search = second_stepped.search
-
-              -- all that was there is there
-              pub spread_extends : Extends old new
-              spread_extends = extends_trans old middle new first_stepped.extends second_stepped.extends
-
-              -- what each edge leads to lies between entries
-              pub spread_between : (m : ℕ)
-                  → IsSuccessor (graph_step view.nodes) (node_at (trail_of old.entries.items) index) m
-                  → IsBetween (trail_of new.entries.items) (seen_of new.sets.items new.entries.items) m younger
-              spread_between m edge =
-                  elim (leads-from_successor view.nodes (node_at (trail_of old.entries.items) index) m node node_found edge) [
+            -- both edges are
+            pub both_stepped : AreStepped view block old new index
+            both_stepped = record {
+              search = second_stepped.search;
+              extends = extends_trans old middle new first_stepped.extends second_stepped.extends;
+              between = λ m edge.
+                  let from = node_at (trail_of old.entries.items) index in
+                  elim (leads-from_successor view.nodes from m node node_found edge) [
                     | inl at ↦
                         between_extended view block middle new m younger first_stepped.search second_stepped.extends
-                        (subst (IsBetween (trail_of middle.entries.items) (seen_of middle.sets.items middle.entries.items) m)
-                        value_is (first_stepped.between m at))
+                        (subst (λ (y : Option (List ℕ)). IsBetween (trail_of middle.entries.items)
+                        (seen_of middle.sets.items middle.entries.items) m y) value_is (first_stepped.between m at))
                     | inr at ↦
                         subst (IsBetween (trail_of new.entries.items) (seen_of new.sets.items new.entries.items) m)
                         (reached_still ∙ value_is) (second_stepped.between m at)
-                  ]
+                  ];
+            }
 
 -- what is reached by the numbers that were read is what the node leaves after
 pub value_from : (view : View) (block n : ℕ) (table sets : List (List ℕ)) (ways : ℕ) (fetch younger : Option ℕ)

@@ -6,7 +6,7 @@ use Rattle.path_trail.specs.Trail.{node_at}
 use Rattle.set_view.specs.View.{View}
 use Rattle.focus_plain.specs.declared.search.Entry.{Entry}
 use Rattle.focus_plain.specs.declared.ends.Found.{Found}
-use Rattle.focus_plain.specs.Entries.{trail_of, seen_of, latest_at, place_of, IsSpread}
+use Rattle.focus_plain.specs.Entries.{trail_of, seen_of, latest_at, index_of, IsSpread}
 use Rattle.focus_plain.specs.Search.{IsSearch}
 
 -- of the first entries, those with a small younger set, or those with none, by their nodes: each that is listed is one,
@@ -14,8 +14,8 @@ use Rattle.focus_plain.specs.Search.{IsSearch}
 pub record AreEnds (entries : List Entry) (count : ℕ) (small : Bool) (ends : List (Option ℕ)) : Type 0 where
   pub sound : (n number : ℕ) → latest_at ends n ≡ Some number
       → (number < count) × (node_at (trail_of entries) number ≡ n)
-      × (is_some (place_of (slice_get entries number)) ≡ small)
-  pub complete : (number : ℕ) → number < count → is_some (place_of (slice_get entries number)) ≡ small
+      × (is_some (index_of (slice_get entries number)) ≡ small)
+  pub complete : (number : ℕ) → number < count → is_some (index_of (slice_get entries number)) ≡ small
       → (other : ℕ) × (latest_at ends (node_at (trail_of entries) number) ≡ Some other)
 
 -- the number is noted for the node, unless there is another one

@@ -14,25 +14,25 @@ abbrev pub with_more : Option ℕ → List ℕ → List ℕ
 with_more None set = set
 with_more (Some x) set = with_number x set
 
--- the set at a place of the table
+-- the set at an index of the table
 abbrev pub set_at : List (List ℕ) → Option ℕ → Option (List ℕ)
 set_at sets None = None
-set_at sets (Some place) = Some (slice_index_or sets place [])
+set_at sets (Some index) = Some (slice_index_or sets index [])
 
 -- the set that is reached
 abbrev pub reached_set : List (List ℕ) → Option Reach → Option (List ℕ)
 reached_set sets None = None
-reached_set sets (Some reach) = Some (with_more reach.more (slice_index_or sets reach.place []))
+reached_set sets (Some reach) = Some (with_more reach.more (slice_index_or sets reach.index []))
 
--- the place is one of the table's
-abbrev pub IsPlace : List (List ℕ) → Option ℕ → Type 0
-IsPlace sets None = Unit {0}
-IsPlace sets (Some place) = place < length sets
+-- the index is one of the table's
+abbrev pub IsIndex : List (List ℕ) → Option ℕ → Type 0
+IsIndex sets None = Unit {0}
+IsIndex sets (Some index) = index < length sets
 
--- so is the place of what is reached
+-- so is the index of what is reached
 abbrev pub IsReachable : List (List ℕ) → Option Reach → Type 0
 IsReachable sets None = Unit {0}
-IsReachable sets (Some reach) = reach.place < length sets
+IsReachable sets (Some reach) = reach.index < length sets
 
 -- an entry of a trail
 abbrev pub trail_entry : Entry → TrailEntry
@@ -96,7 +96,7 @@ abbrev pub next_of : Option Entry → Option ℕ
 next_of None = None
 next_of (Some entry) = entry.next
 
--- the place of its younger set
-abbrev pub place_of : Option Entry → Option ℕ
-place_of None = None
-place_of (Some entry) = entry.younger
+-- the index of its younger set
+abbrev pub index_of : Option Entry → Option ℕ
+index_of None = None
+index_of (Some entry) = entry.younger

@@ -4,7 +4,7 @@ use Rattle.std.specs.List.Sorted.{IsStrictlyIncreasing}
 use Rattle.path_trail.specs.Trail.{node_at}
 use Rattle.set_view.specs.View.{View}
 use Rattle.focus_plain.specs.declared.search.Search.{Search}
-use Rattle.focus_plain.specs.Entries.{set_at, IsPlace, trail_of, seen_of, latest_at, next_of, place_of, IsCourse, IsBetween}
+use Rattle.focus_plain.specs.Entries.{set_at, IsIndex, trail_of, seen_of, latest_at, next_of, index_of, IsCourse, IsBetween}
 
 -- the first list is a prefix of the second
 abbrev pub IsLonger : {X : Type 0} → List X → List X → Type 0
@@ -16,17 +16,17 @@ Grows {X} xs ys = (more : List X) × (length more ≤ 1) × (ys ≡ xs ++ more)
 
 -- the numbers of each set rise
 abbrev pub AreRising : List (List ℕ) → Type 0
-AreRising sets = (place : ℕ) → place < length sets → IsStrictlyIncreasing (slice_index_or sets place [])
+AreRising sets = (index : ℕ) → index < length sets → IsStrictlyIncreasing (slice_index_or sets index [])
 
--- the links of a search: entries have numbers of 32 bits, the first set is the one without numbers, each place is one
+-- the links of a search: entries have numbers of 32 bits, the first set is the one without numbers, each index is one
 -- of the table's, and the entries at a node are linked from the last one back
 pub record AreLinked (search : Search) : Type 0 where
   pub few : length search.entries.items < 2 ^ 32
   pub few_sets : length search.sets.items ≤ length search.entries.items
   pub first : slice_get search.sets.items 0 ≡ Some []
   pub rising : AreRising search.sets.items
-  pub places : (number : ℕ) → number < length search.entries.items
-      → IsPlace search.sets.items (place_of (slice_get search.entries.items number))
+  pub indices : (number : ℕ) → number < length search.entries.items
+      → IsIndex search.sets.items (index_of (slice_get search.entries.items number))
   pub inside : (number : ℕ) → number < length search.entries.items
       → node_at (trail_of search.entries.items) number < length search.latest.items
   pub latest : (n number : ℕ) → latest_at search.latest.items n ≡ Some number
@@ -50,15 +50,15 @@ pub record Extends (old new : Search) : Type 0 where
 
 -- one entry was added, for an edge from an entry to a node, where this younger set is left
 pub record IsAdded (old new : Search) (from to : ℕ) (younger : Option (List ℕ)) : Type 0 where
-  pub place : Option ℕ
-  pub kept : IsPlace new.sets.items place
-  pub value : set_at new.sets.items place ≡ younger
+  pub index : Option ℕ
+  pub kept : IsIndex new.sets.items index
+  pub value : set_at new.sets.items index ≡ younger
   pub sets : Grows old.sets.items new.sets.items
   pub rising : AreRising new.sets.items
   pub few : length new.entries.items < 2 ^ 32
   pub entries : new.entries.items
       ≡ old.entries.items
-      ++ record { node = to; younger = place; earlier = Some from; next = latest_at old.latest.items to } ∷ []
+      ++ record { node = to; younger = index; earlier = Some from; next = latest_at old.latest.items to } ∷ []
   pub latest : new.latest.items ≡ slice_set old.latest.items to (Some (length old.entries.items))
 
 -- an edge from an entry was followed, with this younger set

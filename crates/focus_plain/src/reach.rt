@@ -4,7 +4,7 @@ ghost use Rattle.std.specs.List.{Contains};
 ghost use Rattle.std.specs.List.Sorted.{IsStrictlyIncreasing};
 ghost use Rattle.focus_spec.specs.Younger.{after, with_number};
 ghost use Rattle.focus_plain.specs.Cut.{cut, IsBelow};
-ghost use Rattle.focus_plain.specs.Entries.{set_at, reached_set, IsPlace, IsReachable};
+ghost use Rattle.focus_plain.specs.Entries.{set_at, reached_set, IsIndex, IsReachable};
 
 use set_list::SetList;
 use std::alloc::AllocError;
@@ -12,7 +12,7 @@ use std::alloc::AllocError;
 /// A set of a table, and perhaps one more number.
 #[derive(Clone, Copy)]
 pub(crate) struct Reach {
-    pub place: u32,
+    pub index: u32,
     pub more: Option<u16>,
 }
 
@@ -27,9 +27,9 @@ pub(crate) fn moved(
 ) -> Option<Reach>
     requires some_ways { 1 ≤ ways }
     requires first { slice_get sets.now 0 ≡ Some [] }
-    requires place { IsPlace sets.now younger }
+    requires index { IsIndex sets.now younger }
     requires small { cut ways (set_at sets.now younger) ≡ set_at sets.now younger }
-    ensures place { IsReachable sets.now result }
+    ensures index { IsReachable sets.now result }
     ensures value { reached_set sets.now result ≡ cut ways (after block fetch (set_at sets.now younger)) }
 {
     let Some(other) = fetch else {
@@ -42,27 +42,27 @@ pub(crate) fn moved(
 }
 
 // The set of the table alone.
-fn alone(place: u32) -> Option<Reach>
-    ensures { result ≡ Some (record { place = place; more = None }) }
+fn alone(index: u32) -> Option<Reach>
+    ensures { result ≡ Some (record { index = index; more = None }) }
 {
-    Some(Reach { place, more: None })
+    Some(Reach { index, more: None })
 }
 
 // The set of the table with one more number, if that is small.
-fn with_other(sets: &[SetList], ways: u32, other: u16, place: u32) -> Option<Reach>
-    requires inside { place < length sets.now }
-    requires small { length (slice_index_or sets.now place []) < ways }
-    ensures place { IsReachable sets.now result }
+fn with_other(sets: &[SetList], ways: u32, other: u16, index: u32) -> Option<Reach>
+    requires inside { index < length sets.now }
+    requires small { length (slice_index_or sets.now index []) < ways }
+    ensures index { IsReachable sets.now result }
     ensures value { reached_set sets.now result
-        ≡ cut ways (Some (with_number other (slice_index_or sets.now place []))) }
+        ≡ cut ways (Some (with_number other (slice_index_or sets.now index []))) }
 {
-    let numbers = sets[place as usize].items();
+    let numbers = sets[index as usize].items();
     if has(numbers, other) {
-        return alone(place);
+        return alone(index);
     }
     if numbers.len() + 1 < ways as usize {
         return Some(Reach {
-            place,
+            index,
             more: Some(other),
         });
     }
@@ -87,59 +87,59 @@ fn all_in(numbers: &[u16], others: &[u16], more: Option<u16>) -> bool
     true
 }
 
-/// Tells that the set at a place is below what is reached.
+/// Tells that the set at an index is below what is reached.
 pub(crate) fn is_below(sets: &[SetList], younger: Option<u32>, reach: Option<Reach>) -> bool
-    requires place { IsPlace sets.now younger }
+    requires index { IsIndex sets.now younger }
     requires reach { IsReachable sets.now reach }
     ensures { IsTrue result → IsBelow (set_at sets.now younger) (reached_set sets.now reach) }
 {
     let Some(reach) = reach else {
         return true;
     };
-    let Some(place) = younger else {
+    let Some(index) = younger else {
         return false;
     };
-    place == reach.place || is_below_set(sets, place, reach)
+    index == reach.index || is_below_set(sets, index, reach)
 }
 
 // The same where both are sets.
-fn is_below_set(sets: &[SetList], place: u32, reach: Reach) -> bool
-    requires place { place < length sets.now }
-    requires reach { reach.place < length sets.now }
-    ensures { IsTrue result → IsBelow (set_at sets.now (Some place)) (reached_set sets.now (Some reach)) }
+fn is_below_set(sets: &[SetList], index: u32, reach: Reach) -> bool
+    requires index { index < length sets.now }
+    requires reach { reach.index < length sets.now }
+    ensures { IsTrue result → IsBelow (set_at sets.now (Some index)) (reached_set sets.now (Some reach)) }
 {
-    let numbers = sets[place as usize].items();
-    all_in(numbers, sets[reach.place as usize].items(), reach.more)
+    let numbers = sets[index as usize].items();
+    all_in(numbers, sets[reach.index as usize].items(), reach.more)
 }
 
-/// Tells that the set at a place is above what is reached.
+/// Tells that the set at an index is above what is reached.
 pub(crate) fn is_above(sets: &[SetList], younger: Option<u32>, reach: Option<Reach>) -> bool
-    requires place { IsPlace sets.now younger }
+    requires index { IsIndex sets.now younger }
     requires reach { IsReachable sets.now reach }
     ensures { IsTrue result → IsBelow (reached_set sets.now reach) (set_at sets.now younger) }
 {
-    let Some(place) = younger else {
+    let Some(index) = younger else {
         return true;
     };
     let Some(reach) = reach else {
         return false;
     };
     match reach.more {
-        None => place == reach.place || is_above_set(sets, place, reach.place),
+        None => index == reach.index || is_above_set(sets, index, reach.index),
         Some(number) => {
-            has(sets[place as usize].items(), number) && is_above_set(sets, place, reach.place)
+            has(sets[index as usize].items(), number) && is_above_set(sets, index, reach.index)
         }
     }
 }
 
 // The same where both are sets of the table.
-fn is_above_set(sets: &[SetList], place: u32, reached: u32) -> bool
-    requires place { place < length sets.now }
+fn is_above_set(sets: &[SetList], index: u32, reached: u32) -> bool
+    requires index { index < length sets.now }
     requires reached { reached < length sets.now }
-    ensures { IsTrue result → IsBelow (set_at sets.now (Some reached)) (set_at sets.now (Some place)) }
+    ensures { IsTrue result → IsBelow (set_at sets.now (Some reached)) (set_at sets.now (Some index)) }
 {
     let numbers = sets[reached as usize].items();
-    all_in(numbers, sets[place as usize].items(), None)
+    all_in(numbers, sets[index as usize].items(), None)
 }
 
 /// The set with one more number, in memory of its own. The error is out of memory.

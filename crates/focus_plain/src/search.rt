@@ -4,7 +4,7 @@ ghost use Rattle.transition_spec.specs.Path.{IsSuccessor};
 ghost use Rattle.path_model.specs.Graph.{graph_step};
 ghost use Rattle.path_trail.specs.Trail.{node_at};
 ghost use Rattle.focus_plain.specs.Cut.{IsBelow, behind};
-ghost use Rattle.focus_plain.specs.Entries.{set_at, reached_set, IsPlace, IsReachable, IsBetween, IsSpread, trail_of, seen_of, seen_at};
+ghost use Rattle.focus_plain.specs.Entries.{set_at, reached_set, IsIndex, IsReachable, IsBetween, IsSpread, trail_of, seen_of, seen_at};
 ghost use Rattle.focus_plain.specs.Search.{Grows, AreRising, IsAdded, IsFollowed, AreLinked, IsSearch, Extends};
 
 use crate::reach::{Reach, is_above, is_below, longer, moved};
@@ -21,7 +21,7 @@ const LIMIT: usize = u32::MAX as usize;
 #[derive(Clone, Copy)]
 pub(crate) struct Entry {
     pub node: u32,
-    /// The place in the table of the younger set that the path leaves before its last node; none where that is large or
+    /// The index in the table of the younger set that the path leaves before its last node; none where that is large or
     /// not there.
     pub younger: Option<u32>,
     pub earlier: Option<u32>,
@@ -121,12 +121,12 @@ fn spread(search: &mut Search, view: &SetView, block: u16, index: u32) -> Result
         entry.younger,
     );
     let node = view.graph().nodes()[entry.node as usize];
-    follow(search, index, node.first, reached)?;
-    follow(search, index, node.second, reached)
+    try_edge(search, index, node.first, reached)?;
+    try_edge(search, index, node.second, reached)
 }
 
 // Adds an entry at the node that an edge leads to, unless the node has entries below and above.
-fn follow(
+fn try_edge(
     search: &mut Search,
     from: u32,
     to: Option<u32>,
@@ -220,23 +220,23 @@ fn add(search: &mut Search, from: u32, to: u32, reached: Option<Reach>) -> Resul
     Ok(())
 }
 
-// The place of what is reached in the table, to which it is added where it has one more number.
+// The index of what is reached in the table, to which it is added where it has one more number.
 fn keep(sets: &mut Vec<SetList>, reached: Option<Reach>) -> Result<Option<u32>, AllocError>
     requires reached { IsReachable sets.old.items reached }
     requires few { length sets.old.items < 2 ^ 32 }
     requires rising { AreRising sets.old.items }
     ensures grows { OnOk result (Grows sets.old.items sets.new.items) }
     ensures rising { OnOk result (AreRising sets.new.items) }
-    ensures place { IfOk result (λ younger. IsPlace sets.new.items younger) }
+    ensures index { IfOk result (λ younger. IsIndex sets.new.items younger) }
     ensures value { IfOk result (λ younger. set_at sets.new.items younger ≡ reached_set sets.old.items reached) }
 {
-    let Some(Reach { place, more }) = reached else {
+    let Some(Reach { index, more }) = reached else {
         return Ok(None);
     };
     let Some(number) = more else {
-        return Ok(Some(place));
+        return Ok(Some(index));
     };
-    let longer = longer(&sets[place as usize], number)?;
+    let longer = longer(&sets[index as usize], number)?;
     let kept = sets.len() as u32;
     sets.push(longer)?;
     Ok(Some(kept))

@@ -5,7 +5,7 @@ use Rattle.std.specs.Option.{is_some}
 use Rattle.std.specs.Prelude.{slice_get}
 use Rattle.path_trail.specs.Trail.{node_at}
 use Rattle.focus_plain.specs.declared.search.Entry.{Entry}
-use Rattle.focus_plain.specs.Entries.{trail_of, place_of}
+use Rattle.focus_plain.specs.Entries.{trail_of, index_of}
 use Rattle.focus_plain.specs.Ends.{AreEnds, IsNoted}
 use Rattle.focus_plain.proofs.Links.{node-read}
 use Rattle.focus_plain.proofs.Equals.{same_tests, other_tests}
@@ -13,17 +13,26 @@ use Rattle.focus_plain.proofs.Noted.{ends_noted, ends_passed}
 use Rattle.focus_plain.proofs.ends.ends.Goals as goal
 use Rattle.focus_plain.proofs.ends.ends.Goals.{then-is_some-small, else-is_some-small}
 
+-- the entry that is read
+abbrev entry_at : List Entry → ℕ → Entry
+entry_at entries index = get_or entries index (record { node = 0; younger = None; earlier = None; next = None })
+
+module _ (entries : List Entry) (index : ℕ) (inside : index < length entries) where
+  -- it is there
+  entry_found : slice_get entries index ≡ Some (entry_at entries index)
+  entry_found = slice_get-get_or entries index _ inside
+
+  -- the trail has its node
+  node_is : node_at (trail_of entries) index ≡ (entry_at entries index).node
+  node_is = node-read entries index (entry_at entries index) entry_found
+
 pub note-requires : goal.note-requires
 note-requires c =
-    let entries = c.args.entries.now in
-    let entry : Entry = get_or entries c.loop-index.index
-    (record { node = 0; younger = None; earlier = None; next = None }) in
-    let inside : c.loop-index.index < length entries = omega (arith, c.loop-index-test.true) in
-    let read = node-read entries c.loop-index.index entry (slice_get-get_or entries c.loop-index.index _ inside) in
+    let inside : c.loop-index.index < length c.args.entries.now = omega (arith, c.loop-index-test.true) in
     omega (
       arith,
       c.requires.inside c.loop-index.index inside,
-      read,
+      node_is c.args.entries.now c.loop-index.index inside,
       ap length c.deref_mut.ensures.value,
       c.loop-index.invariant.one_each,
     )
@@ -31,13 +40,11 @@ note-requires c =
 pub loop-index-preserved : goal.loop-index-preserved
 loop-index-preserved c =
     let entries = c.args.entries.now in
-    let entry : Entry = get_or entries c.loop-index.index
-    (record { node = 0; younger = None; earlier = None; next = None }) in
     let inside : c.loop-index.index < length entries = omega (arith, c.loop-index-test.true) in
-    let found : slice_get entries c.loop-index.index ≡ Some entry =
-    slice_get-get_or entries c.loop-index.index _ inside in
-    let there : c.is_some.result ≡ is_some (place_of (slice_get entries c.loop-index.index)) =
-    c.is_some.ensures ∙ sym (ap (λ (o : Option Entry). is_some (place_of o)) found) in
+    let node : ℕ = (entry_at entries c.loop-index.index).node in
+    let there : c.is_some.result ≡ is_some (index_of (slice_get entries c.loop-index.index)) =
+    c.is_some.ensures ∙ sym (ap (λ (o : Option Entry). is_some (index_of o))
+    (entry_found entries c.loop-index.index inside)) in
     elim c.if-is_some-small.branch [
       | then-is_some-small w ↦
           let as_long : length w.note.new.ends ≡ length c.loop-index.ends.items =
@@ -48,10 +55,10 @@ loop-index-preserved c =
           let noted : IsNoted c.loop-index.ends.items c.if-is_some-small.ends.items
           (node_at (trail_of entries) c.loop-index.index) c.loop-index.index =
           subst (λ (n : ℕ). IsNoted c.loop-index.ends.items c.if-is_some-small.ends.items n c.loop-index.index)
-          (sym (node-read entries c.loop-index.index entry found))
-          (subst (λ (new : List (Option ℕ)). IsNoted c.loop-index.ends.items new entry.node c.loop-index.index)
+          (sym (node_is entries c.loop-index.index inside))
+          (subst (λ (new : List (Option ℕ)). IsNoted c.loop-index.ends.items new node c.loop-index.index)
           (sym new_is)
-          (subst (λ (old : List (Option ℕ)). IsNoted old w.note.new.ends entry.node c.loop-index.index)
+          (subst (λ (old : List (Option ℕ)). IsNoted old w.note.new.ends node c.loop-index.index)
           w.deref_mut.ensures.value w.note.ensures)) in
           record {
             ends = ends_noted entries c.loop-index.index c.args.small c.loop-index.ends.items

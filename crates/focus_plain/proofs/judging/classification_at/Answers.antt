@@ -1,6 +1,11 @@
-use Rattle.std.proofs.Common.{ℕ, List, true, false, sym, ◌∙◌}
-use Rattle.focus_plain.proofs.Fates.{noted_inside, noted_way, none_noted}
+use Rattle.std.proofs.Common.{true, false, sym, ◌∙◌}
+use Rattle.focus_plain.proofs.Fates.{HitsWhereSmall, noted_inside, noted_way, none_noted}
 use Rattle.focus_plain.proofs.judging.classification_at.Goals as goal
+use Rattle.focus_plain.proofs.judging.classification_at.Goals.{After-view_laws}
+
+-- a fetch of the block hits where its younger set is small
+law : (c : After-view_laws) → HitsWhereSmall c.args.view.now c.args.found.now.block
+law c n earlier = c.view_laws.ensures.hits c.args.view.now n c.args.found.now.block earlier c.requires.view
 
 pub way_of-requires-clause-inside : goal.way_of-requires-clause-inside
 way_of-requires-clause-inside c =
@@ -12,28 +17,22 @@ way_of-requires-in-Some-Some-clause-inside c =
 
 pub returns-in_ok-way_of-in-Some-Some-2 : goal.returns-in_ok-way_of-in-Some-Some-2
 returns-in_ok-way_of-in-Some-Some-2 c =
-    let view = c.args.view.now in
-    let found = c.args.found.now in
-    let law = λ (n : ℕ) (earlier : List ℕ). c.view_laws.ensures.hits view n found.block earlier c.requires.view in (
-      noted_way view found c.requires.found law c.args.node c.requires.fetches true _ _ _
+    let known = (goal.at.returns-in_ok-way_of-in-Some-Some-2 c).After-view_laws in (
+      noted_way c.args.view.now c.args.found.now c.requires.found (law known) c.args.node c.requires.fetches true _ _ _
           (sym c.end_at.ensures ∙ c.in-Some-Some.is-0) c.graph.ensures.same c.in_ok-way_of-in-Some-Some.ensures,
-      noted_way view found c.requires.found law c.args.node c.requires.fetches false _ _ _
+      noted_way c.args.view.now c.args.found.now c.requires.found (law known) c.args.node c.requires.fetches false _ _ _
           (sym c.end_at-2.ensures ∙ c.in-Some-Some.is-1) c.graph-in-Some-Some.ensures.same
           c.in_ok-way_of-in-Some-Some-2.ensures,
     )
 
 pub returns-in-Some-None : goal.returns-in-Some-None
 returns-in-Some-None c =
-    let view = c.args.view.now in
-    let found = c.args.found.now in
-    let law = λ (n : ℕ) (earlier : List ℕ). c.view_laws.ensures.hits view n found.block earlier c.requires.view in
-    none_noted view found c.requires.found law c.args.node c.requires.fetches false
+    let known = (goal.at.returns-in-Some-None c).After-view_laws in
+    none_noted c.args.view.now c.args.found.now c.requires.found (law known) c.args.node c.requires.fetches false
     (sym c.end_at-2.ensures ∙ c.in-Some-None.is-1)
 
 pub returns-in-None-default : goal.returns-in-None-default
 returns-in-None-default c =
-    let view = c.args.view.now in
-    let found = c.args.found.now in
-    let law = λ (n : ℕ) (earlier : List ℕ). c.view_laws.ensures.hits view n found.block earlier c.requires.view in
-    none_noted view found c.requires.found law c.args.node c.requires.fetches true
+    let known = (goal.at.returns-in-None-default c).After-view_laws in
+    none_noted c.args.view.now c.args.found.now c.requires.found (law known) c.args.node c.requires.fetches true
     (sym c.end_at.ensures ∙ c.in-None-default.is-0)

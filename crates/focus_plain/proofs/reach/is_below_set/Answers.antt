@@ -6,10 +6,10 @@ use Rattle.focus_plain.proofs.reach.is_below_set.Goals as goal
 
 pub returns : goal.returns
 returns c = λ passes.
-    let small : List ℕ = get_or c.args.sets.now c.args.place [] in
-    let large : List ℕ = get_or c.args.sets.now c.args.reach.place [] in
+    let small : List ℕ = get_or c.args.sets.now c.args.index [] in
+    let large : List ℕ = get_or c.args.sets.now c.args.reach.index [] in
     let small_is : c.items-numbers.result.now ≡ small =
-    c.items-numbers.ensures.value ∙ get_or_read _ _ _ c.requires.place c.index-sets-place.is [] in
+    c.items-numbers.ensures.value ∙ get_or_read _ _ _ c.requires.index c.index-sets-index.is [] in
     let large_is : c.items.result.now ≡ large =
     c.items.ensures.value ∙ get_or_read _ _ _ c.requires.reach c.index-sets-reach.is [] in
     let all = c.all_in.ensures passes in

@@ -1,15 +1,15 @@
 use Rattle.std.proofs.Common.{ℕ, List, Option, sym, subst}
 use Rattle.focus_plain.specs.Cut.{IsBelow}
-use Rattle.focus_plain.specs.Entries.{IsPlace, set_at, reached_set}
-use Rattle.focus_plain.proofs.Links.{entry_read, seen-read, place-read}
+use Rattle.focus_plain.specs.Entries.{IsIndex, set_at, reached_set}
+use Rattle.focus_plain.proofs.Links.{entry_read, seen-read, index-read}
 use Rattle.focus_plain.proofs.search.lies_below.Goals as goal
 
-pub is_below-requires-clause-place : goal.is_below-requires-clause-place
-is_below-requires-clause-place c =
+pub is_below-requires-clause-index : goal.is_below-requires-clause-index
+is_below-requires-clause-index c =
     let entry = entry_read c.args.search.now.entries.items c.args.number c.index.result.now c.requires.inside
     c.index.ensures in
-    subst (λ (s : List (List ℕ)). IsPlace s c.index.result.now.younger) (sym c.deref.ensures.value)
-    (place-read c.args.search.now c.args.number c.index.result.now c.requires.linked c.requires.inside entry)
+    subst (λ (s : List (List ℕ)). IsIndex s c.index.result.now.younger) (sym c.deref.ensures.value)
+    (index-read c.args.search.now c.args.number c.index.result.now c.requires.linked c.requires.inside entry)
 
 pub returns : goal.returns
 returns c = λ passes.

@@ -1,23 +1,25 @@
-use Rattle.std.proofs.Common.{◌≡◌, ℕ, List, length, sym, ap, ◌∙◌, subst, arith}
+use Rattle.std.proofs.Common.{◌≡◌, ◌<◌, ℕ, List, length, sym, ap, ◌∙◌, subst, arith}
 use Rattle.std.proofs.lemmas.Result.{on_ok_weaker}
-use Rattle.path_model.specs.Graph.{IsGraph}
-use Rattle.focus_plain.specs.declared.search.Entry.{Entry}
-use Rattle.focus_plain.specs.Cut.{cut}
-use Rattle.focus_plain.specs.Entries.{IsPlace, IsReachable, set_at}
-use Rattle.focus_plain.proofs.Links.{entry_read, place-read}
-use Rattle.focus_plain.proofs.Spread.{node_inside, seen_small, value_from, first_stepped, spread_search, spread_extends, spread_between}
+use Rattle.std.specs.Prelude.{OnOk}
+use Rattle.transition_spec.specs.Path.{IsSuccessor}
+use Rattle.path_model.specs.Graph.{IsGraph, graph_step}
+use Rattle.focus_plain.specs.Cut.{cut, behind}
+use Rattle.focus_plain.specs.Entries.{IsIndex, IsReachable, set_at, reached_set}
+use Rattle.focus_plain.proofs.Links.{entry_read, index-read}
+use Rattle.focus_plain.proofs.Spread.{node_inside, seen_small, value_from, first_stepped, AreStepped, both_stepped}
 use Rattle.focus_plain.proofs.search.spread.Goals as goal
+use Rattle.focus_plain.proofs.search.spread.Goals.{After-try_edge, After-try_edge-2}
 
 pub fetch-requires : goal.fetch-requires
 fetch-requires c = node_inside c.args.view.now c.args.block c.args.search.now c.requires.search c.args.index
     c.requires.inside c.index-entry.result.now c.index-entry.ensures
 
-pub moved-reached-requires-clause-place : goal.moved-reached-requires-clause-place
-moved-reached-requires-clause-place c =
+pub moved-reached-requires-clause-index : goal.moved-reached-requires-clause-index
+moved-reached-requires-clause-index c =
     let entry = entry_read c.args.search.now.entries.items c.args.index c.index-entry.result.now c.requires.inside
     c.index-entry.ensures in
-    subst (λ (s : List (List ℕ)). IsPlace s c.index-entry.result.now.younger) (sym c.deref.ensures.value)
-    (place-read c.args.search.now c.args.index c.index-entry.result.now c.requires.search.linked c.requires.inside
+    subst (λ (s : List (List ℕ)). IsIndex s c.index-entry.result.now.younger) (sym c.deref.ensures.value)
+    (index-read c.args.search.now c.args.index c.index-entry.result.now c.requires.search.linked c.requires.inside
     entry)
 
 pub moved-reached-requires-clause-small : goal.moved-reached-requires-clause-small
@@ -36,69 +38,55 @@ bounds-nodes-entry c =
     c.requires.inside c.index-entry.result.now c.index-entry.ensures in
     omega (arith, inside, ap length (c.nodes.ensures.same ∙ c.graph.ensures.same))
 
-pub follow-requires-2-clause-linked : goal.follow-requires-2-clause-linked
-follow-requires-2-clause-linked c =
-    let sets : List (List ℕ) = c.args.search.now.sets.items in
-    let entry : Entry = c.index-entry.result.now in
-    let same : c.nodes.result.now ≡ c.args.view.now.nodes = c.nodes.ensures.same ∙ c.graph.ensures.same in
-    let graph : IsGraph c.args.view.now.nodes = subst IsGraph c.graph.ensures.same c.nodes.ensures.graph in
-    let reachable : IsReachable sets c.moved-reached.result = subst
-    (λ (s : List (List ℕ)). IsReachable s c.moved-reached.result) c.deref.ensures.value
-    c.moved-reached.ensures.place in
-    let value = value_from c.args.view.now c.args.block entry.node c.deref.result.now sets c.ways.result c.fetch.result
-    entry.younger c.moved-reached.result
-    c.deref.ensures.value c.ways.ensures.same c.fetch.ensures c.moved-reached.ensures.value in
-    (first_stepped c.args.view.now c.args.block c.args.search.now c.requires.search c.args.index c.requires.inside entry
-    c.index-entry.ensures c.nodes.result.now same _ (λ n m edge. c.graph_laws.ensures.inside c.args.view.now.nodes n
-    m graph edge) c.moved-reached.result reachable value c.follow.new.search c.in_ok-follow.ensures).search.linked
+-- what the answers about both edges share
+module _ (c : After-try_edge) where
+  -- the nodes are those of the view
+  same_nodes : c.nodes.result.now ≡ c.args.view.now.nodes
+  same_nodes = c.nodes.ensures.same ∙ c.graph.ensures.same
+
+  -- an edge leads to one of them
+  ends : (n m : ℕ) → IsSuccessor (graph_step c.args.view.now.nodes) n m → m < length c.args.view.now.nodes
+  ends n m edge =
+      c.graph_laws.ensures.inside c.args.view.now.nodes n m (subst IsGraph c.graph.ensures.same c.nodes.ensures.graph)
+      edge
+
+  -- what is reached has an index in the table
+  reachable : IsReachable c.args.search.now.sets.items c.moved-reached.result
+  reachable =
+      subst (λ (s : List (List ℕ)). IsReachable s c.moved-reached.result) c.deref.ensures.value
+      c.moved-reached.ensures.index
+
+  -- it is what the entry's node leaves
+  value : reached_set c.args.search.now.sets.items c.moved-reached.result
+      ≡ behind c.args.view.now c.args.block c.index-entry.result.now.node
+      (set_at c.args.search.now.sets.items c.index-entry.result.now.younger)
+  value =
+      value_from c.args.view.now c.args.block c.index-entry.result.now.node c.deref.result.now
+      c.args.search.now.sets.items c.ways.result c.fetch.result c.index-entry.result.now.younger c.moved-reached.result
+      c.deref.ensures.value c.ways.ensures.same c.fetch.ensures c.moved-reached.ensures.value
+
+pub try_edge-requires-2-clause-linked : goal.try_edge-requires-2-clause-linked
+try_edge-requires-2-clause-linked c =
+    let known = (goal.at.try_edge-requires-2-clause-linked c).After-try_edge in
+    (first_stepped c.args.view.now c.args.block c.args.search.now c.requires.search c.args.index c.requires.inside
+    c.index-entry.result.now c.index-entry.ensures c.nodes.result.now (same_nodes known) _ (ends known)
+    c.moved-reached.result (reachable known) (value known) c.try_edge.new.search c.in_ok-try_edge.ensures).search.linked
+
+-- both edges are followed
+both : (c : After-try_edge-2) → OnOk c.try_edge-2.result
+    (AreStepped c.args.view.now c.args.block c.args.search.now c.try_edge-2.new.search c.args.index)
+both c =
+    let known = (goal.at.returns-clause-search c).After-try_edge in
+    on_ok_weaker c.try_edge-2.result (λ second. both_stepped c.args.view.now c.args.block c.args.search.now
+    c.requires.search c.args.index c.requires.inside c.index-entry.result.now c.index-entry.ensures c.nodes.result.now
+    (same_nodes known) _ (ends known) c.moved-reached.result (reachable known) (value known) c.try_edge.new.search
+    c.in_ok-try_edge.ensures c.try_edge-2.new.search second) c.try_edge-2.ensures
 
 pub returns-clause-search : goal.returns-clause-search
-returns-clause-search c =
-    let sets : List (List ℕ) = c.args.search.now.sets.items in
-    let entry : Entry = c.index-entry.result.now in
-    let same : c.nodes.result.now ≡ c.args.view.now.nodes = c.nodes.ensures.same ∙ c.graph.ensures.same in
-    let graph : IsGraph c.args.view.now.nodes = subst IsGraph c.graph.ensures.same c.nodes.ensures.graph in
-    let reachable : IsReachable sets c.moved-reached.result = subst
-    (λ (s : List (List ℕ)). IsReachable s c.moved-reached.result) c.deref.ensures.value
-    c.moved-reached.ensures.place in
-    let value = value_from c.args.view.now c.args.block entry.node c.deref.result.now sets c.ways.result c.fetch.result
-    entry.younger c.moved-reached.result
-    c.deref.ensures.value c.ways.ensures.same c.fetch.ensures c.moved-reached.ensures.value in
-    on_ok_weaker c.follow-2.result (λ second. spread_search c.args.view.now c.args.block c.args.search.now
-    c.requires.search c.args.index c.requires.inside entry c.index-entry.ensures c.nodes.result.now same _
-    (λ n m edge. c.graph_laws.ensures.inside c.args.view.now.nodes n m graph edge) c.moved-reached.result reachable
-    value c.follow.new.search c.in_ok-follow.ensures c.follow-2.new.search second) c.follow-2.ensures
+returns-clause-search c = on_ok_weaker c.try_edge-2.result (λ stepped. stepped.search) (both c)
 
 pub returns-clause-extends : goal.returns-clause-extends
-returns-clause-extends c =
-    let sets : List (List ℕ) = c.args.search.now.sets.items in
-    let entry : Entry = c.index-entry.result.now in
-    let same : c.nodes.result.now ≡ c.args.view.now.nodes = c.nodes.ensures.same ∙ c.graph.ensures.same in
-    let graph : IsGraph c.args.view.now.nodes = subst IsGraph c.graph.ensures.same c.nodes.ensures.graph in
-    let reachable : IsReachable sets c.moved-reached.result = subst
-    (λ (s : List (List ℕ)). IsReachable s c.moved-reached.result) c.deref.ensures.value
-    c.moved-reached.ensures.place in
-    let value = value_from c.args.view.now c.args.block entry.node c.deref.result.now sets c.ways.result c.fetch.result
-    entry.younger c.moved-reached.result
-    c.deref.ensures.value c.ways.ensures.same c.fetch.ensures c.moved-reached.ensures.value in
-    on_ok_weaker c.follow-2.result (λ second. spread_extends c.args.view.now c.args.block c.args.search.now
-    c.requires.search c.args.index c.requires.inside entry c.index-entry.ensures c.nodes.result.now same _
-    (λ n m edge. c.graph_laws.ensures.inside c.args.view.now.nodes n m graph edge) c.moved-reached.result reachable
-    value c.follow.new.search c.in_ok-follow.ensures c.follow-2.new.search second) c.follow-2.ensures
+returns-clause-extends c = on_ok_weaker c.try_edge-2.result (λ stepped. stepped.extends) (both c)
 
 pub returns-clause-spread : goal.returns-clause-spread
-returns-clause-spread c =
-    let sets : List (List ℕ) = c.args.search.now.sets.items in
-    let entry : Entry = c.index-entry.result.now in
-    let same : c.nodes.result.now ≡ c.args.view.now.nodes = c.nodes.ensures.same ∙ c.graph.ensures.same in
-    let graph : IsGraph c.args.view.now.nodes = subst IsGraph c.graph.ensures.same c.nodes.ensures.graph in
-    let reachable : IsReachable sets c.moved-reached.result = subst
-    (λ (s : List (List ℕ)). IsReachable s c.moved-reached.result) c.deref.ensures.value
-    c.moved-reached.ensures.place in
-    let value = value_from c.args.view.now c.args.block entry.node c.deref.result.now sets c.ways.result c.fetch.result
-    entry.younger c.moved-reached.result
-    c.deref.ensures.value c.ways.ensures.same c.fetch.ensures c.moved-reached.ensures.value in
-    on_ok_weaker c.follow-2.result (λ second. spread_between c.args.view.now c.args.block c.args.search.now
-    c.requires.search c.args.index c.requires.inside entry c.index-entry.ensures c.nodes.result.now same _
-    (λ n m edge. c.graph_laws.ensures.inside c.args.view.now.nodes n m graph edge) c.moved-reached.result reachable
-    value c.follow.new.search c.in_ok-follow.ensures c.follow-2.new.search second) c.follow-2.ensures
+returns-clause-spread c = on_ok_weaker c.try_edge-2.result (λ stepped. stepped.between) (both c)

@@ -1,24 +1,33 @@
-use Rattle.std.proofs.Common.{◌≡◌, ◌+◌, List, Some, length, sym, ap, ◌∙◌, arith}
+use Rattle.std.proofs.Common.{◌≡◌, ◌+◌, Global, List, Some, length, sym, ap, ◌∙◌, arith}
+use Rattle.std.proofs.lemmas.Iterator.{YieldsList}
 use Rattle.std.proofs.lemmas.Iterator.Adapters.{YieldsList-from_vec}
 use Rattle.std.proofs.lemmas.Iterator.Consumers.{YieldsList-turn, YieldsList-end}
 use Rattle.std.proofs.lemmas.List.{length_push}
 use Rattle.std.proofs.lemmas.Option.{slice_get-get_or}
 use Rattle.std.specs.Prelude.{slice_get}
+use Rattle.std.specs.Vec.Iter.{into_iter_steps}
 use Rattle.focus_values.specs.declared.values.YoungerSets.{YoungerSets}
 use Rattle.focus_plain.specs.declared.settling.PlainPlace.{PlainPlace}
 use Rattle.focus_plain.specs.Settled.{IsPlainPlace}
 use Rattle.focus_plain.proofs.Fetchers.{fetchers_all}
 use Rattle.focus_plain.proofs.Kept.{kept_more}
 use Rattle.focus_plain.proofs.settling.places.Goals as goal
+use Rattle.focus_plain.proofs.settling.places.Goals.{After-into_iter-younger-iterator}
+
+-- the loop goes over the sets
+yields : (c : After-into_iter-younger-iterator) → YieldsList (into_iter_steps {X = YoungerSets} {Z = Global}) (λ y. y)
+    c.into_iter-younger-iterator.result c.args.sets.items
+yields c =
+    let gives = c.into_iter-younger-iterator.ensures.into_iter_gives in
+    YieldsList-from_vec {s = c.into_iter-younger-iterator.result} c.args.sets.items gives.0
+    (gives.1 ∙ c.args.sets.ok.0)
 
 pub loop-younger-preserved : goal.loop-younger-preserved
 loop-younger-preserved c =
     let sets : List YoungerSets = c.args.sets.items in
     let younger : YoungerSets = c.in-Some.younger in
-    let gives = c.into_iter-younger-iterator.ensures.into_iter_gives in
-    let yields = YieldsList-from_vec {s = c.into_iter-younger-iterator.result} sets gives.0
-    (gives.1 ∙ c.args.sets.ok.0) in
-    let turn = YieldsList-turn yields c.loop-younger.yielded c.loop-younger.younger-iterator c.loop-younger.yielded_by
+    let each = yields (goal.at.loop-younger-preserved c).After-into_iter-younger-iterator in
+    let turn = YieldsList-turn each c.loop-younger.yielded c.loop-younger.younger-iterator c.loop-younger.yielded_by
     c.next.result c.next.new.self younger c.in-Some.is c.next.ensures.steps in
     let at : slice_get sets c.loop-younger.node ≡ Some younger =
     ap (slice_get sets) c.loop-younger.invariant.count
@@ -35,11 +44,8 @@ loop-younger-preserved c =
 
 pub returns-clause-nodes : goal.returns-clause-nodes
 returns-clause-nodes c =
-    let sets : List YoungerSets = c.args.sets.items in
-    let gives = c.into_iter-younger-iterator.ensures.into_iter_gives in
-    let yields = YieldsList-from_vec {s = c.into_iter-younger-iterator.result} sets gives.0
-    (gives.1 ∙ c.args.sets.ok.0) in
-    let end = YieldsList-end yields c.loop-younger.yielded c.loop-younger.younger-iterator c.loop-younger.yielded_by
+    let each = yields (goal.at.returns-clause-nodes c).After-into_iter-younger-iterator in
+    let end = YieldsList-end each c.loop-younger.yielded c.loop-younger.younger-iterator c.loop-younger.yielded_by
     c.next.result c.next.new.self c.in-None.is c.next.ensures.steps in
     let all : length c.args.view.now.fetches ≡ c.loop-younger.node =
     omega (arith, c.loop-younger.invariant.count, end.1, c.requires.one_each, c.requires.view.one_each) in

@@ -1,6 +1,11 @@
-use Rattle.std.proofs.Common.{ℕ, List, sym, ◌∙◌}
-use Rattle.focus_plain.proofs.Fates.{noted_inside, noted_way, none_noted}
+use Rattle.std.proofs.Common.{sym, ◌∙◌}
+use Rattle.focus_plain.proofs.Fates.{HitsWhereSmall, noted_inside, noted_way, none_noted}
 use Rattle.focus_plain.proofs.settling.way_at.Goals as goal
+use Rattle.focus_plain.proofs.settling.way_at.Goals.{After-view_laws}
+
+-- a fetch of the block hits where its younger set is small
+law : (c : After-view_laws) → HitsWhereSmall c.args.view.now c.args.found.now.block
+law c n earlier = c.view_laws.ensures.hits c.args.view.now n c.args.found.now.block earlier c.requires.view
 
 pub way_of-requires-clause-inside : goal.way_of-requires-clause-inside
 way_of-requires-clause-inside c =
@@ -8,16 +13,12 @@ way_of-requires-clause-inside c =
 
 pub returns-in_ok-way_of-in-Some : goal.returns-in_ok-way_of-in-Some
 returns-in_ok-way_of-in-Some c =
-    let view = c.args.view.now in
-    let found = c.args.found.now in
-    let law = λ (n : ℕ) (earlier : List ℕ). c.view_laws.ensures.hits view n found.block earlier c.requires.view in
-    noted_way view found c.requires.found law c.args.node c.requires.fetches c.args.hits _ _ _
-    (sym c.end_at.ensures ∙ c.in-Some.is) c.graph.ensures.same c.in_ok-way_of-in-Some.ensures
+    let known = (goal.at.returns-in_ok-way_of-in-Some c).After-view_laws in
+    noted_way c.args.view.now c.args.found.now c.requires.found (law known) c.args.node c.requires.fetches c.args.hits
+    _ _ _ (sym c.end_at.ensures ∙ c.in-Some.is) c.graph.ensures.same c.in_ok-way_of-in-Some.ensures
 
 pub returns-in-None : goal.returns-in-None
 returns-in-None c =
-    let view = c.args.view.now in
-    let found = c.args.found.now in
-    let law = λ (n : ℕ) (earlier : List ℕ). c.view_laws.ensures.hits view n found.block earlier c.requires.view in
-    none_noted view found c.requires.found law c.args.node c.requires.fetches c.args.hits
+    let known = (goal.at.returns-in-None c).After-view_laws in
+    none_noted c.args.view.now c.args.found.now c.requires.found (law known) c.args.node c.requires.fetches c.args.hits
     (sym c.end_at.ensures ∙ c.in-None.is)
