@@ -1,6 +1,7 @@
 -- The answer of the first group of tests that fails is that of the file.
-use Rattle.std.proofs.Common.{◌≡◌, ℕ, Option, Some, None, Result, Ok, Err, IfErr, List, ◌++◌, sym, ap, ◌∙◌, subst}
+use Rattle.std.proofs.Common.{◌≡◌, ◌⊎◌, inl, ℕ, Option, Some, None, Result, Ok, Err, IfOk, IfErr, IsErrAnd, List, ◌++◌, sym, ap, ◌∙◌, subst}
 use Rattle.elf_spec.specs.declared.fault.ElfFault.{ElfFault}
+use Rattle.elf_spec.specs.declared.fault.ElfFault.TheVariants.{OutOfMemory}
 use Rattle.elf_spec.specs.Image.{Image, image_of, answer_of, kept_of, first_fault}
 use Rattle.elf_image.specs.Tests.{identity_tests, machine_tests, table_tests, segment_tests}
 use Rattle.elf_image.proofs.Faults.{passed, failed}
@@ -56,15 +57,21 @@ pub kept : (file : List ℕ) → first_fault (identity_tests file) ≡ None → 
     → image_of file ≡ Ok (kept_of file)
 kept file identity machine table segments = last_group file identity machine table ∙ ap (answer_of file) segments
 
--- where the answer is a fault, a result with that fault is right
-pub only_fault : {T : Type 0} (file : List ℕ) (fault : ElfFault) (result : Result T ElfFault) → result ≡ Err fault
-    → image_of file ≡ Err fault
-    → IfErr (image_of file) (λ other. result ≡ Err other)
-only_fault file fault result same is =
-    let P : Result Image ElfFault → Type 0 =
-    λ answer. IfErr answer (λ other. result ≡ Err other) in subst P (sym is) same
+-- where the answer is a fault of the file, a result with that fault meets each clause of `read`
+pub only_fault : {T : Type 0} (P Q : T → Type 0) {file bytes : List ℕ} {fault : ElfFault} (result : Result T ElfFault)
+    → file ≡ bytes → IsErrAnd result (λ other. other ≡ fault) → image_of file ≡ Err fault
+    → record {
+      image : IfOk result P;
+      fault : IfErr result (λ other. (image_of bytes ≡ Err other) ⊎ (other ≡ OutOfMemory));
+      refused : IfErr (image_of bytes) (λ other. result ≡ Err other);
+      segments : IfOk result Q;
+    }
+only_fault P Q {bytes = bytes} (Ok value) same is here = absurd is
+only_fault P Q {bytes = bytes} (Err other) same is here =
+    let answer : image_of bytes ≡ Err other = sym (ap image_of same) ∙ here ∙ ap Err (sym is) in
+    record { image = tt; fault = inl answer; refused = rw answer; segments = tt }
 
--- and where it is an image, there is none
+-- where the answer is an image, there is no fault
 pub no_fault : (file : List ℕ) (P : ElfFault → Type 0) (image : Image) → image_of file ≡ Ok image
     → IfErr (image_of file) P
 no_fault file P image is = let Q : Result Image ElfFault → Type 0 = λ answer. IfErr answer P in subst Q (sym is) tt
