@@ -18,7 +18,7 @@ use Rattle.call_expand.specs.declared.point.Edges.{Edges}
 use Rattle.call_expand.specs.Point.{configuration_at, configurations_at, IsPoint, ArePoints, GoesOn, points_of, IsEdge, Opens, FailsAt, AreAllFollowed}
 use Rattle.call_expand.proofs.Ordered.{point}
 use Rattle.call_expand.proofs.Texts.{next-texts}
-use Rattle.call_expand.proofs.Zipped.{map-same, all-weaker, all-front, all-at, zip-weaker, zip-more}
+use Rattle.call_expand.proofs.Zipped.{map-same, all-weaker, all-prefix, all-at, zip-weaker, zip-more}
 
 -- the edges of a point: nowhere, to one point, and to two of one stack
 abbrev pub none : Edges
@@ -177,9 +177,9 @@ module _ {step : Step} {image : Image} {before : List StackCell} {points : List 
     {old new : List Edges} (are : ArePoints image before points) (within : i < length points)
     (followed : AreFollowed step image before points i now old new) where
   -- the first of some points are such points
-  are-front : ArePoints image before (take i points)
-  are-front = let P : List Point → Type 0 = ArePoints image before in
-      all-front (IsPoint image before) (take i points) (drop i points) (subst P (sym (take-append-drop i points)) are)
+  are-prefix : ArePoints image before (take i points)
+  are-prefix = let P : List Point → Type 0 = ArePoints image before in
+      all-prefix (IsPoint image before) (take i points) (drop i points) (subst P (sym (take-append-drop i points)) are)
 
   -- one point more is followed
   pub followed-more : (after : List StackCell) (p d : Point) (edge : Edges) (edges : List Edges) → p ≡ get_or points i d
@@ -193,7 +193,7 @@ module _ {step : Step} {image : Image} {before : List StackCell} {points : List 
       (same-edge step image now after goes_on) (take i points)
       followed.more
       (all-weaker (IsPoint image before) (IsPoint image now) (same-point image before now followed.goes_on)
-      (take i points) are-front)
+      (take i points) are-prefix)
       followed.each in
       let R : ℕ → Type 0 = λ j. AllZip (IsEdge step image after) (take j points) (followed.more ++ edge ∷ []) in
       record {
@@ -224,7 +224,7 @@ module _ {step : Step} {image : Image} {before : List StackCell} {points : List 
             ap (configurations_at before) cut
             ∙ map-append (configuration_at before) (take i points) (p ∷ drop (i + 1) points);
         faultless =
-            edges-faultless step image before now followed.goes_on (take i points) followed.more are-front
+            edges-faultless step image before now followed.goes_on (take i points) followed.more are-prefix
             followed.each;
         faulty = ap step (sym (same-configuration before now p followed.goes_on is.known)) ∙ faulty;
       }

@@ -164,8 +164,8 @@ module _ {image : Image} {entry : ℕ} {cells : List StackCell} {points : List P
   all_configurations = configurations_at cells points
 
   -- all points are followed
-  front : take (length points) points ≡ points
-  front = take_all (length points) points (omega arith)
+  prefix : take (length points) points ≡ points
+  prefix = take_all (length points) points (omega arith)
 
   -- no point is left
   back : drop (length points) points ≡ []
@@ -175,7 +175,7 @@ module _ {image : Image} {entry : ℕ} {cells : List StackCell} {points : List P
   each : AllZip (IsEdge (successors image entry) image cells) points edges
   each =
       let P : List Point → Type 0 =
-      λ ps. AllZip (IsEdge (successors image entry) image cells) ps edges in subst P front at.each
+      λ ps. AllZip (IsEdge (successors image entry) image cells) ps edges in subst P prefix at.each
 
   -- the last layer is empty
   walked : IsWalked (successors image entry) image entry all_configurations []
@@ -185,7 +185,7 @@ module _ {image : Image} {entry : ℕ} {cells : List StackCell} {points : List P
       (configurations_at cells (drop (length points) points)) in
       let Q : List Point → Type 0 =
       λ ps. IsWalked (successors image entry) image entry all_configurations (configurations_at cells ps) in
-      subst Q back (subst P front at.walked)
+      subst Q back (subst P prefix at.walked)
 
   -- the program is accepted
   pub is_accepted : (configurations : List Configuration) → configurations ≡ configurations_at cells points

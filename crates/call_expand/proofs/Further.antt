@@ -18,7 +18,7 @@ use Rattle.call_expand.specs.declared.point.Edges.{Edges}
 use Rattle.call_expand.specs.Point.{configuration_at, configurations_at, point_cmp, IsPoint, ArePoints, GoesOn, points_of, IsEdge, FailsAt, AreAllFollowed}
 use Rattle.call_expand.specs.Numbers.{AreNew, AreNumbered}
 use Rattle.call_expand.specs.Search.{IsWalked, IsAt, AreNext}
-use Rattle.call_expand.proofs.Zipped.{all-weaker, all-append, all-front, all-back, zip-length, zip-append, zip-weaker}
+use Rattle.call_expand.proofs.Zipped.{all-weaker, all-append, all-prefix, all-back, zip-length, zip-append, zip-weaker}
 use Rattle.call_expand.proofs.Walked.{faulty, too_many, walked_more}
 use Rattle.call_expand.proofs.Edges.{same-point, same-configurations, same-edge, goes_on-refl, edges-faultless}
 use Rattle.call_expand.proofs.Layer.{are_next, are_new}
@@ -45,7 +45,7 @@ module _ {image : Image} {entry : ℕ} {cells : List StackCell} {points : List P
   are_first : ArePoints image cells (take start points)
   are_first =
       let P : List Point → Type 0 = ArePoints image cells in
-      all-front (IsPoint image cells) (take start points) (drop start points) (subst P (sym cut) at.are_points)
+      all-prefix (IsPoint image cells) (take start points) (drop start points) (subst P (sym cut) at.are_points)
 
   pub are_last : ArePoints image cells (drop start points)
   are_last =
@@ -145,7 +145,7 @@ module _ {image : Image} {entry : ℕ} {cells : List StackCell} {points : List P
     at_next room few =
         let Each : List Point → Type 0 =
         λ ps. AllZip (IsEdge (successors image entry) image after) ps (edges ++ more) in
-        let front : take (length points) (points ++ new) ≡ points = take_at points new (length points) refl in
+        let prefix : take (length points) (points ++ new) ≡ points = take_at points new (length points) refl in
         let back : drop (length points) (points ++ new) ≡ new = drop_at points new (length points) refl in
         let Points : List Point → Type 0 = ArePoints image after in
         let Before : List Configuration → Type 0 =
@@ -164,7 +164,7 @@ module _ {image : Image} {entry : ℕ} {cells : List StackCell} {points : List P
               each same sorted are_cut);
           within = omega (arith, length-append points new);
           each =
-              subst Each (cut ∙ sym front)
+              subst Each (cut ∙ sym prefix)
               (zip-append (IsEdge (successors image entry) image after) (take start points) (drop start points) edges
               more
               (zip-weaker (IsPoint image cells) (IsEdge (successors image entry) image cells)
@@ -175,7 +175,7 @@ module _ {image : Image} {entry : ℕ} {cells : List StackCell} {points : List P
           room = omega (arith, room, at.room, at.within, length-drop start points);
           walked =
               subst Last (sym back)
-              (subst Before (whole ∙ ap (configurations_at after) (sym front))
+              (subst Before (whole ∙ ap (configurations_at after) (sym prefix))
               (walked_more (successors image entry) image entry (configurations_at after (take start points))
               (configurations_at after (drop start points)) walked (configurations_at after new) faultless next
               (omega (arith, few, as_many))));

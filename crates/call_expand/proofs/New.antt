@@ -68,12 +68,12 @@ new-all (first ∷ found) seen more (inr new) point has =
     (has-cases first point found has)
 
 -- what isn't before an element, and doesn't tie with it, is after it
-behind : (o p : Ordering) → o ≡ ordering_reverse p → is_lt p ≡ false → (o ≡ Equal → ⊥) → o ≡ Less
-behind Less p turned not_before apart = refl
-behind Equal p turned not_before apart = absurd (apart refl)
-behind Greater Less turned not_before apart = absurd (cc)
-behind Greater Equal turned not_before apart = absurd (cc)
-behind Greater Greater turned not_before apart = absurd (cc)
+beyond : (o p : Ordering) → o ≡ ordering_reverse p → is_lt p ≡ false → (o ≡ Equal → ⊥) → o ≡ Less
+beyond Less p turned not_before apart = refl
+beyond Equal p turned not_before apart = absurd (apart refl)
+beyond Greater Less turned not_before apart = absurd (cc)
+beyond Greater Equal turned not_before apart = absurd (cc)
+beyond Greater Greater turned not_before apart = absurd (cc)
 
 -- no later element of a list in order is before its first
 pub not_before-first : (order : Point → Point → Ordering) → IsTotalOrder order → (first : Point) (points : List Point)
@@ -113,7 +113,7 @@ new-sorted order Known total same (first ∷ found) seen more known sorted (inr 
     new.3 in
     let after = all-from_each (λ (point : Point). order first point ≡ Less) new.1 (λ point has.
     let listed = new-listed found (seen ++ first ∷ []) new.1 new.3 point has in
-    behind (order first point) (order point first) (total.antisymm first point)
+    beyond (order first point) (order point first) (total.antisymm first point)
     (not_before-first order total first found sorted point listed)
     (λ tie.
     let one = same first point known.0 (each-has Known found known.1 point listed) tie in

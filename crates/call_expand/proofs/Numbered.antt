@@ -15,7 +15,7 @@ use Rattle.call_expand.specs.declared.point.Point.{Point}
 use Rattle.call_expand.specs.declared.point.Edges.{Edges}
 use Rattle.call_expand.specs.Point.{points_of}
 use Rattle.call_expand.specs.Numbers.{pair_cmp, AreApart, AreNumbers, AreNew, IsAdded, IsNodeFor, AreNodesFor, AreAmong}
-use Rattle.call_expand.proofs.Zipped.{all-front, all-back}
+use Rattle.call_expand.proofs.Zipped.{all-prefix, all-back}
 use Rattle.call_expand.proofs.Ordered.{point-parts, then_equal, nat_equal}
 
 -- the numbers of pairs
@@ -62,17 +62,17 @@ at-push points p q n at =
     let within = slice_get_within (points ++ p ∷ []) n q at in
     let value : get_or (points ++ p ∷ []) n q ≡ q = get_or_from_slice_get (points ++ p ∷ []) n q q at in
     ⊎_elim
-    (λ (front : n < length points).
-    inr (slice_get-get_or points n q front ∙ ap Some (sym (get_or_append_left points (p ∷ []) q n front) ∙ value)))
+    (λ (prefix : n < length points).
+    inr (slice_get-get_or points n q prefix ∙ ap Some (sym (get_or_append_left points (p ∷ []) q n prefix) ∙ value)))
     (λ (past : length points ≤ n).
     let last : length points ≡ n = omega (arith, length_push points p) in
     inl (sym last, sym (get_or_push points p q n last) ∙ value))
     (cases_lt n (length points))
 
 -- the elements of a list with one more
-front-push : (points : List Point) (p q : Point) (n : ℕ) → slice_get points n ≡ Some q
+prefix-push : (points : List Point) (p q : Point) (n : ℕ) → slice_get points n ≡ Some q
     → slice_get (points ++ p ∷ []) n ≡ Some q
-front-push points p q n at =
+prefix-push points p q n at =
     let within = slice_get_within points n q at in
     slice_get-get_or (points ++ p ∷ []) n q (omega (arith, length_push points p))
     ∙ ap Some (get_or_append_left points (p ∷ []) q n within ∙ get_or_from_slice_get points n q q at)
@@ -93,14 +93,14 @@ numbers-push points before after p number is_length are new updates = record {
       (λ (last : (n ≡ length points) × (p ≡ q)).
       let P : Point → Type 0 = λ q. get pair_cmp after (q.at, q.stack) ≡ Some n in
       subst P last.1 (updates.1 ∙ ap Some (is_length ∙ sym last.0)))
-      (λ (front : slice_get points n ≡ Some q).
+      (λ (prefix : slice_get points n ≡ Some q).
       ⊎_elim
       (λ (same : is_eq (pair_cmp (p.at, p.stack) (q.at, q.stack)) ≡ true).
       let one : p ≡ q = same-key p q (is-equal (pair_cmp (p.at, p.stack) (q.at, q.stack)) same) in
       let P : Point → Type 0 = λ q. slice_get points n ≡ Some q in
-      absurd (new (listed-at points n p (subst P (sym one) front))))
+      absurd (new (listed-at points n p (subst P (sym one) prefix))))
       (λ (other : is_eq (pair_cmp (p.at, p.stack) (q.at, q.stack)) ≡ false).
-      updates.2 (q.at, q.stack) other ∙ are.found n q front)
+      updates.2 (q.at, q.stack) other ∙ are.found n q prefix)
       (bool-cases (is_eq (pair_cmp (p.at, p.stack) (q.at, q.stack)))))
       (at-push points p q n at);
   only = λ n q has.
@@ -114,7 +114,7 @@ numbers-push points before after p number is_length are new updates = record {
       let R : ℕ → Type 0 = λ n. slice_get (points ++ p ∷ []) n ≡ Some p in
       subst Q one (subst R last (last-push points p)))
       (λ (other : is_eq (pair_cmp (p.at, p.stack) (q.at, q.stack)) ≡ false).
-      front-push points p q n (are.only n q (sym (updates.2 (q.at, q.stack) other) ∙ has)))
+      prefix-push points p q n (are.only n q (sym (updates.2 (q.at, q.stack) other) ∙ has)))
       (bool-cases (is_eq (pair_cmp (p.at, p.stack) (q.at, q.stack))));
 }
 
@@ -208,7 +208,7 @@ pub among-at : (all : List Point) (edges : List Edges) (i : ℕ) (d : Edges) →
     → AreAmong all (points_of (get_or edges i d))
 among-at all [] i d among below = absurd (omega arith)
 among-at all (edge ∷ edges) zero d among below =
-    all-front (Contains all) (points_of edge) (flat_map points_of edges) among
+    all-prefix (Contains all) (points_of edge) (flat_map points_of edges) among
 among-at all (edge ∷ edges) (suc i) d among below =
     among-at all edges i d (all-back (Contains all) (points_of edge) (flat_map points_of edges) among) (omega arith)
 

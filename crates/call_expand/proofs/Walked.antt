@@ -22,9 +22,9 @@ use Rattle.call_expand.proofs.Zipped.{all-append}
 use Rattle.call_expand.proofs.Searched.{begun, first_layer, searched_more, next_layer, layers_more}
 
 -- the configuration with a number that is in the first list
-pub numbered-front : (front back : List Configuration) (n : ℕ) → n < length front
-    → numbered (front ++ back) n ≡ numbered front n
-numbered-front front back n below = get_or_append_left front back (start_of 0) n below
+pub numbered-prefix : (prefix back : List Configuration) (n : ℕ) → n < length prefix
+    → numbered (prefix ++ back) n ≡ numbered prefix n
+numbered-prefix prefix back n below = get_or_append_left prefix back (start_of 0) n below
 
 -- a successor, where both are given otherwise
 same-successor : (step : Step) (b c d e : Configuration) → d ≡ b → e ≡ c → IsSuccessor step b c → IsSuccessor step d e
@@ -34,10 +34,10 @@ same-successor step b c d e first second follows =
     subst P (sym first) (subst Q (sym second) follows)
 
 -- one that is listed in the first list has a number there
-front-number : (front back : List Configuration) (c : Configuration) → Contains front c
-    → (n : ℕ) × (n < length front) × (numbered (front ++ back) n ≡ c)
-front-number front back c has =
-    (has.0, has.1, numbered-front front back has.0 has.1 ∙ (get_or_default front has.0 (start_of 0) c has.1 ∙ has.2))
+prefix-number : (prefix back : List Configuration) (c : Configuration) → Contains prefix c
+    → (n : ℕ) × (n < length prefix) × (numbered (prefix ++ back) n ≡ c)
+prefix-number prefix back c has =
+    (has.0, has.1, numbered-prefix prefix back has.0 has.1 ∙ (get_or_default prefix has.0 (start_of 0) c has.1 ∙ has.2))
 
 module _ (step : Step) (image : Image) (entry : ℕ) where
   -- the entry alone
@@ -150,7 +150,7 @@ module _ (step : Step) (image : Image) (entry : ℕ) where
           let from =
           is.follow (numbered next k)
           (Contains-get_or next k (start_of 0) (omega (arith, length-append (before ++ last) next))) in
-          let n = front-number (before ++ last) next from.0 (Contains-append_right before last from.0 from.1) in (
+          let n = prefix-number (before ++ last) next from.0 (Contains-append_right before last from.0 from.1) in (
             n.0,
             omega (arith, n.1),
             same-successor step from.0 (numbered next k) (numbered ((before ++ last) ++ next) n.0)
@@ -161,15 +161,15 @@ module _ (step : Step) (image : Image) (entry : ℕ) where
       follow_more : FollowSmaller step ((before ++ last) ++ next)
       follow_more m one below =
           ⊎_elim
-          (λ (front : m < length (before ++ last)).
-          let old = walked.follow_smaller m one front in (
+          (λ (prefix : m < length (before ++ last)).
+          let old = walked.follow_smaller m one prefix in (
             old.0,
             old.1,
             same-successor step (numbered (before ++ last) old.0) (numbered (before ++ last) m)
                 (numbered ((before ++ last) ++ next) old.0)
                 (numbered ((before ++ last) ++ next) m)
-                (numbered-front (before ++ last) next old.0 (omega (arith, old.1)))
-                (numbered-front (before ++ last) next m front) old.2,
+                (numbered-prefix (before ++ last) next old.0 (omega (arith, old.1)))
+                (numbered-prefix (before ++ last) next m prefix) old.2,
           ))
           (λ (past : length (before ++ last) ≤ m). next_follow_smaller m past below)
           (cases_lt m (length (before ++ last)))
@@ -190,6 +190,6 @@ module _ (step : Step) (image : Image) (entry : ℕ) where
             walked.searched is);
         some = omega (arith, walked.some, length-append (before ++ last) next);
         follow_smaller = follow_more;
-        begins = numbered-front (before ++ last) next 0 walked.some ∙ walked.begins;
+        begins = numbered-prefix (before ++ last) next 0 walked.some ∙ walked.begins;
         few = few;
       }

@@ -7,24 +7,24 @@ use Rattle.elf_image.specs.Tests.{identity_tests, machine_tests, table_tests, se
 use Rattle.elf_image.proofs.Faults.{passed, failed}
 
 -- the groups after the first, and those after the second
-abbrev behind_identity : List ℕ → List (Option ElfFault)
-behind_identity file = machine_tests file ++ (table_tests file ++ segment_tests file)
+abbrev after_identity : List ℕ → List (Option ElfFault)
+after_identity file = machine_tests file ++ (table_tests file ++ segment_tests file)
 
-abbrev behind_machine : List ℕ → List (Option ElfFault)
-behind_machine file = table_tests file ++ segment_tests file
+abbrev after_machine : List ℕ → List (Option ElfFault)
+after_machine file = table_tests file ++ segment_tests file
 
 pub fault_of_identity : (file : List ℕ) (fault : ElfFault) → first_fault (identity_tests file) ≡ Some fault
     → image_of file ≡ Err fault
 unfolding image_of
-fault_of_identity file fault here = ap (answer_of file) (failed (identity_tests file) (behind_identity file) fault here)
+fault_of_identity file fault here = ap (answer_of file) (failed (identity_tests file) (after_identity file) fault here)
 
 pub fault_of_machine : (file : List ℕ) (fault : ElfFault) → first_fault (identity_tests file) ≡ None
     → first_fault (machine_tests file) ≡ Some fault → image_of file ≡ Err fault
 unfolding image_of
 fault_of_machine file fault identity here =
     ap (answer_of file)
-    (passed (identity_tests file) (behind_identity file) identity
-    ∙ failed (machine_tests file) (behind_machine file) fault here)
+    (passed (identity_tests file) (after_identity file) identity
+    ∙ failed (machine_tests file) (after_machine file) fault here)
 
 pub fault_of_table : (file : List ℕ) (fault : ElfFault) → first_fault (identity_tests file) ≡ None
     → first_fault (machine_tests file) ≡ None
@@ -32,8 +32,8 @@ pub fault_of_table : (file : List ℕ) (fault : ElfFault) → first_fault (ident
 unfolding image_of
 fault_of_table file fault identity machine here =
     ap (answer_of file)
-    (passed (identity_tests file) (behind_identity file) identity
-    ∙ (passed (machine_tests file) (behind_machine file) machine
+    (passed (identity_tests file) (after_identity file) identity
+    ∙ (passed (machine_tests file) (after_machine file) machine
     ∙ failed (table_tests file) (segment_tests file) fault here))
 
 last_group : (file : List ℕ) → first_fault (identity_tests file) ≡ None → first_fault (machine_tests file) ≡ None
@@ -41,8 +41,8 @@ last_group : (file : List ℕ) → first_fault (identity_tests file) ≡ None �
 unfolding image_of
 last_group file identity machine table =
     ap (answer_of file)
-    (passed (identity_tests file) (behind_identity file) identity
-    ∙ (passed (machine_tests file) (behind_machine file) machine
+    (passed (identity_tests file) (after_identity file) identity
+    ∙ (passed (machine_tests file) (after_machine file) machine
     ∙ passed (table_tests file) (segment_tests file) table))
 
 pub fault_of_segments : (file : List ℕ) (fault : ElfFault) → first_fault (identity_tests file) ≡ None

@@ -86,7 +86,7 @@ apart_from file (suc count) from apart =
 -- two headers that don't meet
 apart_unmet : (h other : ProgramHeader) → meets h other ≡ false → IsApart (segment_of other) (segment_of h)
 apart_unmet h other unmet =
-    elim (and_cases _ _ unmet) [ inl before ↦ inl (ltb-false _ _ before) | inr behind ↦ inr (ltb-false _ _ behind) ]
+    elim (and_cases _ _ unmet) [ inl before ↦ inl (ltb-false _ _ before) | inr beyond ↦ inr (ltb-false _ _ beyond) ]
 
 -- where no header meets an earlier one, all are apart
 all_apart : (file : List ℕ) → first_executable file (meets_earlier file) ≡ None

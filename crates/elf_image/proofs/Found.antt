@@ -25,8 +25,8 @@ find_here p (x ∷ xs) (suc i) d within here before =
     rw first (find_here p xs i d (omega arith) here (λ k h. before (suc k) (omega arith)))
 
 -- a segment that ends at or below an address has no word there
-pub word_behind : (s : Segment) (p : ℕ) → s.at + s.size ≤ p → has_word p s ≡ false
-word_behind s p h = and_right (leb s.at p) _ (lt-leb _ _ (omega arith))
+pub word_after : (s : Segment) (p : ℕ) → s.at + s.size ≤ p → has_word p s ≡ false
+word_after s p h = and_right (leb s.at p) _ (lt-leb _ _ (omega arith))
 
 -- nor has one that begins above it
 pub word_before : (s : Segment) (p : ℕ) → p < s.at → has_word p s ≡ false
@@ -52,7 +52,7 @@ pub found_last : (xs : List Segment) (p last : ℕ) (d : Segment) → AllPairs E
     → has_word p (get_or xs last d) ≡ true → find (has_word p) xs ≡ Some (get_or xs last d)
 found_last xs p last d rising within begun here =
     find_here (has_word p) xs last d within here
-    (λ k below. let h : EndsBefore (get_or xs k d) (get_or xs last d) = rising k last d below within in word_behind
+    (λ k below. let h : EndsBefore (get_or xs k d) (get_or xs last d) = rising k last d below within in word_after
     (get_or xs k d) p (omega arith))
 
 -- or it doesn't, and no segment has it
@@ -67,7 +67,7 @@ found_nowhere xs p last rising within begun here above =
       | inl below ↦
           let h : EndsBefore (get_or xs k d) (get_or xs last d) = rising k last d below within in
           let b : (get_or xs last d).at ≤ p = begun d in
-          word_behind (get_or xs k d) p (omega arith)
+          word_after (get_or xs k d) p (omega arith)
       | inr at ↦ elim (cases_eq k last) [
         | inl same ↦ (let P : ℕ → Type 0 = λ n. has_word p (get_or xs n d) ≡ false in subst P (sym same) (here d))
         | inr other ↦ word_before (get_or xs k d) p (above k d (omega arith) inside)

@@ -11,7 +11,7 @@ use Rattle.elf_spec.specs.Image.{Image}
 use Rattle.elf_spec.specs.Word.{word_at, is_text, has_word, IsText, IsNext, IsNextText}
 use Rattle.elf_image.specs.Among.{has_word_at, some_has_word_at, IsNextIn, IsNextAmong}
 use Rattle.elf_image.specs.Fits.{EndsBefore, SegmentFits}
-use Rattle.elf_image.proofs.Found.{word_behind}
+use Rattle.elf_image.proofs.Found.{word_after}
 
 -- a test that agrees has the same least number
 next_same : (f g : ℕ → Bool) (from : ℕ) (next : Option ℕ) → ((n : ℕ) → f n ≡ g n) → IsNext f from next
@@ -90,7 +90,7 @@ next_here xs p i w d rising within next before = (
           | inl same ↦ (let Q : ℕ → Type 0 = λ m. has_word_at (get_or xs m d) n ≡ true in next.2 n above
               (subst Q same there))
           | inr other ↦
-              let behind : EndsBefore (get_or xs i d) (get_or xs k d) = rising i k d (omega arith) some.2 in
+              let beyond : EndsBefore (get_or xs i d) (get_or xs k d) = rising i k d (omega arith) some.2 in
               let end : w + 4 ≤ (get_or xs i d).at + (get_or xs i d).size = word_inside (get_or xs i d) w next.0 in
               let start : (get_or xs k d).at ≤ n = word_above (get_or xs k d) n there in
               omega arith
@@ -99,30 +99,30 @@ next_here xs p i w d rising within next before = (
 )
 
 -- a segment that ends at or below an address has no word from there on
-none_behind : (s : Segment) (p : ℕ) → s.at + s.size ≤ p → IsNextIn s p None
-none_behind s p ended = λ n above. and_right _ _ (word_behind s n (omega arith))
+none_after : (s : Segment) (p : ℕ) → s.at + s.size ≤ p → IsNextIn s p None
+none_after s p ended = λ n above. and_right _ _ (word_after s n (omega arith))
 
 -- the items after the first segments, by index
 at_place : (xs items : List Segment) (first k : ℕ) (d : Segment) → items ≡ drop first xs → first ≤ k
     → get_or items (k - first) d ≡ get_or xs k d
-at_place xs items first k d behind at =
+at_place xs items first k d beyond at =
     let back : first + (k - first) ≡ k = omega arith in
-    ap (λ l. get_or l (k - first) d) behind ∙ get_or-drop first xs (k - first) d ∙ ap (λ m. get_or xs m d) back
+    ap (λ l. get_or l (k - first) d) beyond ∙ get_or-drop first xs (k - first) d ∙ ap (λ m. get_or xs m d) back
 
 -- no segment has a word where the first ones have ended and some after them, the first items, have none
 none_before : (xs items : List Segment) (p first count k : ℕ) (d : Segment)
     → AllWithin (λ s. s.at + s.size ≤ p) xs 0 first
     → items ≡ drop first xs → All (λ s. IsNextIn s p None) (take count items) → k < first + count → k < length xs
     → IsNextIn (get_or xs k d) p None
-none_before xs items p first count k d ended behind none below within =
+none_before xs items p first count k d ended beyond none below within =
     elim (cases_lt k first) [
-      | inl lower ↦ none_behind (get_or xs k d) p (ended k d (omega arith) lower)
+      | inl lower ↦ none_after (get_or xs k d) p (ended k d (omega arith) lower)
       | inr at ↦
           let P : Segment → Type 0 = λ s. IsNextIn s p None in
-          let long : length items ≡ length xs - first = ap length behind ∙ length-drop first xs in
+          let long : length items ≡ length xs - first = ap length beyond ∙ length-drop first xs in
           let inside : k - first < length (take count items) = rw length-take (omega arith) in
           let same : get_or (take count items) (k - first) d ≡ get_or xs k d =
-          get_or-take count items (k - first) d (omega arith) ∙ at_place xs items first k d behind at in
+          get_or-take count items (k - first) d (omega arith) ∙ at_place xs items first k d beyond at in
           subst P same (none (k - first) d inside)
     ]
 
@@ -131,21 +131,21 @@ pub next_found : (xs items : List Segment) (p first index w : ℕ) (d : Segment)
     → AllWithin (λ s. s.at + s.size ≤ p) xs 0 first → items ≡ drop first xs → index < length items
     → All (λ s. IsNextIn s p None) (take index items) → IsNextIn (get_or items index d) p (Some w)
     → IsNextAmong xs p (Some w)
-next_found xs items p first index w d rising ended behind inside none here =
+next_found xs items p first index w d rising ended beyond inside none here =
     let P : Segment → Type 0 = λ s. IsNextIn s p (Some w) in
-    let long : length items ≡ length xs - first = ap length behind ∙ length-drop first xs in
+    let long : length items ≡ length xs - first = ap length beyond ∙ length-drop first xs in
     let within : first + index < length xs = omega arith in
     let back : first + index - first ≡ index = omega arith in
     let same : get_or items index d ≡ get_or xs (first + index) d =
-    ap (λ m. get_or items m d) (sym back) ∙ at_place xs items first (first + index) d behind (omega arith) in
+    ap (λ m. get_or items m d) (sym back) ∙ at_place xs items first (first + index) d beyond (omega arith) in
     next_here xs p (first + index) w d rising within (subst P same here)
-    (λ k lower. none_before xs items p first index k d ended behind none lower (omega arith))
+    (λ k lower. none_before xs items p first index k d ended beyond none lower (omega arith))
 
 -- or that it finds none
 pub next_nowhere : (xs items : List Segment) (p first count : ℕ) → AllWithin (λ s. s.at + s.size ≤ p) xs 0 first
     → items ≡ drop first xs → length items ≤ count → All (λ s. IsNextIn s p None) (take count items)
     → IsNextAmong xs p None
-next_nowhere xs items p first count ended behind all none = λ n above.
-    let long : length items ≡ length xs - first = ap length behind ∙ length-drop first xs in
+next_nowhere xs items p first count ended beyond all none = λ n above.
+    let long : length items ≡ length xs - first = ap length beyond ∙ length-drop first xs in
     list_any_none (λ s. has_word_at s n) xs
-    (λ k d within. none_before xs items p first count k d ended behind none (omega arith) within n above)
+    (λ k d within. none_before xs items p first count k d ended beyond none (omega arith) within n above)

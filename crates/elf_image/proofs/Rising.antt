@@ -42,11 +42,11 @@ in_order_all P (s ∷ later) all =
 
 -- of two that are apart, the one that begins first ends before the other begins
 lower_ends : (s next : Segment) → IsApart s next → IsFilled next → s.at ≤ next.at → EndsBefore s next
-lower_ends s next apart filled le = elim apart [ inl before ↦ before | inr behind ↦ absurd (omega arith) ]
+lower_ends s next apart filled le = elim apart [ inl before ↦ before | inr beyond ↦ absurd (omega arith) ]
 
 -- and the one that begins later begins after the other
 upper_begins : (s next : Segment) → IsApart s next → IsFilled s → next.at < s.at → EndsBefore next s
-upper_begins s next apart filled lt = elim apart [ inl before ↦ absurd (omega arith) | inr behind ↦ behind ]
+upper_begins s next apart filled lt = elim apart [ inl before ↦ absurd (omega arith) | inr beyond ↦ beyond ]
 
 -- a segment that is apart from others that rise goes among them
 placed_rises : (s : Segment) (others : List Segment) → IsFilled s → All IsFilled others → All (IsApart s) others
@@ -63,9 +63,9 @@ placed_rises s (next ∷ later) filled all apart rise =
       rise,
     ))
     (λ e.
-    let behind : EndsBefore next s =
+    let beyond : EndsBefore next s =
     upper_begins s next (All-head (IsApart s) next later apart) filled (leb-false _ _ e) in (
-      placed_all (EndsBefore next) s later behind rise.0,
+      placed_all (EndsBefore next) s later beyond rise.0,
       placed_rises s later filled (All-tail IsFilled next later all) (All-tail (IsApart s) next later apart) rise.1,
     ))
 

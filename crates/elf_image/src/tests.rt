@@ -240,9 +240,9 @@ fn sixty_four_segments_are_kept(rt: HostRuntime) -> Result<(), Fail> {
     for i in 0..64u32 {
         let at = 0x10000 + 8 * i;
         assert_eq!(rt; image.word(at), Some(63 - i), "at {at}");
-        assert_eq!(rt; image.word(at + 4), None, "behind {at}");
+        assert_eq!(rt; image.word(at + 4), None, "after {at}");
         let next = if i < 63 { Some(at + 8) } else { None };
-        assert_eq!(rt; image.word_from(at + 1), next, "from behind {at}");
+        assert_eq!(rt; image.word_from(at + 1), next, "from after {at}");
     }
     Ok(())
 }

@@ -33,7 +33,7 @@ pub enum ElfFault {
     #[error("the file has {count} program headers, more than 64")]
     TooManySegments { count: u16 },
     /// An executable segment that ends after the file's end.
-    #[error("segment {index} ends behind the end of the file")]
+    #[error("segment {index} ends after the end of the file")]
     SegmentOutside { index: u16 },
     /// An executable segment that ends above the highest address.
     #[error("segment {index} ends above the highest address")]

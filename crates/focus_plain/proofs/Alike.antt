@@ -6,7 +6,7 @@ use Rattle.std.specs.List.Sorted.{IsStrictlyIncreasing}
 use Rattle.std.specs.Prelude.{slice_get}
 use Rattle.list_lemmas.proofs.Members.{has-found}
 use Rattle.transition_spec.specs.declared.way.Way.{Way}
-use Rattle.set_list.specs.Rising.{Contains-front}
+use Rattle.set_list.specs.Rising.{Contains-cons}
 use Rattle.focus_spec.specs.Younger.{is_small, fetch_at}
 use Rattle.focus_spec.specs.Focus.{younger_after, Leaves, MayBeSmall, MayBeLarge, IsLeastYounger, AreLeast, AreMost}
 use Rattle.focus_spec.specs.Fate.{AllEnd, NamesEnd}
@@ -86,7 +86,7 @@ module _ (view : View) (block : ℕ) (law : HitsWhereSmall view block) (n : ℕ)
   hit_alike None (first ∷ others) is are = (
     λ some. absurd (cc),
     λ other.
-        let one = (are first).0 ((Contains-front first others first).1 (inr refl)) in
+        let one = (are first).0 ((Contains-cons first others first).1 (inr refl)) in
         absurd (none_small_from_misses is (first, one.left, one.small)),
   )
   hit_alike (Some way) [] is are = (

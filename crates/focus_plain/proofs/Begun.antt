@@ -12,10 +12,10 @@ use Rattle.set_view.specs.View.{View}
 use Rattle.set_list.specs.RisingSets.{rising-empty}
 use Rattle.focus_plain.specs.declared.search.Entry.{Entry}
 use Rattle.focus_plain.specs.declared.search.Search.{Search}
-use Rattle.focus_plain.specs.Cut.{behind}
+use Rattle.focus_plain.specs.Cut.{cut_after}
 use Rattle.focus_plain.specs.Entries.{IsIndex, trail_of, seen_of, seen_at, latest_at, next_of, index_of, IsSound, IsCourse, IsBetween, IsSpread}
 use Rattle.focus_plain.specs.Search.{AreLinked, IsSearch, Extends, AreRising}
-use Rattle.focus_plain.proofs.Course.{node_at-front}
+use Rattle.focus_plain.proofs.Course.{node_at-prefix}
 use Rattle.focus_plain.proofs.Links.{length-trail, length-seen}
 use Rattle.focus_plain.proofs.Followed.{between_extended}
 
@@ -133,14 +133,14 @@ pub spread_more : (view : View) (block : ℕ) (old new : Search) (index : ℕ) �
     → IsSpread view block (trail_of old.entries.items) (seen_of old.sets.items old.entries.items) index
     → ((m : ℕ) → IsSuccessor (graph_step view.nodes) (node_at (trail_of old.entries.items) index) m
     → IsBetween (trail_of new.entries.items) (seen_of new.sets.items new.entries.items) m
-    (behind view block (node_at (trail_of old.entries.items) index)
+    (cut_after view block (node_at (trail_of old.entries.items) index)
     (seen_at (seen_of old.sets.items old.entries.items) index)))
     → IsSpread view block (trail_of new.entries.items) (seen_of new.sets.items new.entries.items) (index + 1)
 spread_more view block old new index is extends inside spread here number m below edge =
     let there : number < length old.entries.items = omega arith in
     let node : node_at (trail_of new.entries.items) number ≡ node_at (trail_of old.entries.items) number =
     ap (λ (t : List TrailEntry). node_at t number) extends.trail.1
-    ∙ node_at-front (trail_of old.entries.items) extends.trail.0 number
+    ∙ node_at-prefix (trail_of old.entries.items) extends.trail.0 number
     (omega (arith, there, length-trail old.entries.items)) in
     let seen : seen_at (seen_of new.sets.items new.entries.items) number
     ≡ seen_at (seen_of old.sets.items old.entries.items) number =
@@ -149,14 +149,14 @@ spread_more view block old new index is extends inside spread here number m belo
     (omega (arith, there, length-seen old.sets.items old.entries.items)) in
     let P : ℕ → Type 0 = λ k. IsSuccessor (graph_step view.nodes) (node_at (trail_of old.entries.items) k) m
     → IsBetween (trail_of new.entries.items) (seen_of new.sets.items new.entries.items) m
-    (behind view block (node_at (trail_of old.entries.items) k)
+    (cut_after view block (node_at (trail_of old.entries.items) k)
     (seen_at (seen_of old.sets.items old.entries.items) k)) in
     let at : P number = elim (cases_eq index number) [
       | inl same ↦ subst P same (here m)
       | inr other ↦ λ e. between_extended view block old new m _ is extends (spread number m (omega arith) e)
     ] in
     subst (λ (n : ℕ). IsBetween (trail_of new.entries.items) (seen_of new.sets.items new.entries.items) m
-    (behind view block n (seen_at (seen_of new.sets.items new.entries.items) number))) (sym node)
+    (cut_after view block n (seen_at (seen_of new.sets.items new.entries.items) number))) (sym node)
     (subst (λ (o : Option (List ℕ)). IsBetween (trail_of new.entries.items) (seen_of new.sets.items new.entries.items) m
-    (behind view block (node_at (trail_of old.entries.items) number) o)) (sym seen)
+    (cut_after view block (node_at (trail_of old.entries.items) number) o)) (sym seen)
     (at (subst (λ (n : ℕ). IsSuccessor (graph_step view.nodes) n m) node edge)))

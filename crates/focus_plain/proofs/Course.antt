@@ -7,73 +7,73 @@ use Rattle.transition_spec.specs.Path.{IsPath, IsSuccessor}
 use Rattle.path_model.specs.Graph.{graph_step}
 use Rattle.path_trail.specs.Trail.{TrailEntry, node_of, earlier_of, node_at, earlier_at, IsChain, LeadsOn, IsTrail}
 use Rattle.set_view.specs.View.{View}
-use Rattle.focus_plain.specs.Cut.{IsBelow, left_by, behind}
+use Rattle.focus_plain.specs.Cut.{IsBelow, left_by, cut_after}
 use Rattle.focus_plain.specs.Entries.{seen_at, IsSound, IsCourse, IsBetween, IsSpread}
 use Rattle.focus_plain.specs.Search.{IsLonger}
-use Rattle.focus_plain.proofs.Order.{IsRising, below_trans, below_refl, behind-below, left_by-rising, left_by-more}
+use Rattle.focus_plain.proofs.Order.{IsRising, below_trans, below_refl, cut_after-below, left_by-rising, left_by-more}
 
 -- an element of the first list
-pub slice_get-front : {X : Type 0} (xs ys : List X) (k : ℕ) → k < length xs → slice_get (xs ++ ys) k ≡ slice_get xs k
-slice_get-front [] ys k inside = absurd (omega arith)
-slice_get-front (x ∷ xs) ys zero inside = refl
-slice_get-front (x ∷ xs) ys (suc k) inside = slice_get-front xs ys k (omega arith)
+pub slice_get-prefix : {X : Type 0} (xs ys : List X) (k : ℕ) → k < length xs → slice_get (xs ++ ys) k ≡ slice_get xs k
+slice_get-prefix [] ys k inside = absurd (omega arith)
+slice_get-prefix (x ∷ xs) ys zero inside = refl
+slice_get-prefix (x ∷ xs) ys (suc k) inside = slice_get-prefix xs ys k (omega arith)
 
 -- the element after the first list
-pub slice_get-behind : {X : Type 0} (xs : List X) (y : X) → slice_get (xs ++ y ∷ []) (length xs) ≡ Some y
-slice_get-behind [] y = refl
-slice_get-behind (x ∷ xs) y = slice_get-behind xs y
+pub slice_get-after : {X : Type 0} (xs : List X) (y : X) → slice_get (xs ++ y ∷ []) (length xs) ≡ Some y
+slice_get-after [] y = refl
+slice_get-after (x ∷ xs) y = slice_get-after xs y
 
 -- entries keep their nodes
-pub node_at-front : (trail more : List TrailEntry) (k : ℕ) → k < length trail
+pub node_at-prefix : (trail more : List TrailEntry) (k : ℕ) → k < length trail
     → node_at (trail ++ more) k ≡ node_at trail k
-node_at-front trail more k inside = ap node_of (slice_get-front trail more k inside)
+node_at-prefix trail more k inside = ap node_of (slice_get-prefix trail more k inside)
 
 -- and the entries before them
-earlier_at-front : (trail more : List TrailEntry) (k : ℕ) → k < length trail
+earlier_at-prefix : (trail more : List TrailEntry) (k : ℕ) → k < length trail
     → earlier_at (trail ++ more) k ≡ earlier_at trail k
-earlier_at-front trail more k inside = ap earlier_of (slice_get-front trail more k inside)
+earlier_at-prefix trail more k inside = ap earlier_of (slice_get-prefix trail more k inside)
 
 module _ (view : View) (block : ℕ) where
   -- what leads on to a node leads on to it still
-  leads-front : (trail more : List TrailEntry) (number : ℕ) (before : Option ℕ) (node : ℕ) → number < length trail
+  leads-prefix : (trail more : List TrailEntry) (number : ℕ) (before : Option ℕ) (node : ℕ) → number < length trail
       → LeadsOn view.nodes trail number before node
       → LeadsOn view.nodes (trail ++ more) number before node
-  leads-front trail more number None node inside leads = leads
-  leads-front trail more number (Some earlier) node inside leads =
+  leads-prefix trail more number None node inside leads = leads
+  leads-prefix trail more number (Some earlier) node inside leads =
       let smaller : earlier < number = leads.0 in (
         smaller,
         subst (λ (n : ℕ). IsSuccessor (graph_step view.nodes) n node)
-            (sym (node_at-front trail more earlier (omega arith))) leads.1,
+            (sym (node_at-prefix trail more earlier (omega arith))) leads.1,
       )
 
   -- a chain stays one
-  chain-front : (trail more : List TrailEntry) → IsTrail view.nodes trail
+  chain-prefix : (trail more : List TrailEntry) → IsTrail view.nodes trail
       → (members : List ℕ) (number : ℕ) (before : Option ℕ) (node : ℕ) → number ≤ length trail
       → LeadsOn view.nodes trail number before node → IsChain trail before members
       → IsChain (trail ++ more) before members
-  chain-front trail more is [] number None node inside leads chain = tt
-  chain-front trail more is (x ∷ members) number None node inside leads chain = absurd chain
-  chain-front trail more is [] number (Some earlier) node inside leads chain = absurd chain
-  chain-front trail more is (x ∷ members) number (Some earlier) node inside leads chain =
+  chain-prefix trail more is [] number None node inside leads chain = tt
+  chain-prefix trail more is (x ∷ members) number None node inside leads chain = absurd chain
+  chain-prefix trail more is [] number (Some earlier) node inside leads chain = absurd chain
+  chain-prefix trail more is (x ∷ members) number (Some earlier) node inside leads chain =
       let smaller : earlier < number = leads.0 in
       let there : earlier < length trail = omega arith in (
-        chain.0 ∙ sym (node_at-front trail more earlier there),
-        subst (λ (o : Option ℕ). IsChain (trail ++ more) o members) (sym (earlier_at-front trail more earlier there))
-            (chain-front trail more is members earlier (earlier_at trail earlier) (node_at trail earlier) (omega arith)
+        chain.0 ∙ sym (node_at-prefix trail more earlier there),
+        subst (λ (o : Option ℕ). IsChain (trail ++ more) o members) (sym (earlier_at-prefix trail more earlier there))
+            (chain-prefix trail more is members earlier (earlier_at trail earlier) (node_at trail earlier) (omega arith)
             (is earlier there) chain.1),
       )
 
   -- a sound entry stays so
-  sound-front : (trail more : List TrailEntry) (number : ℕ) (younger : Option (List ℕ)) → IsTrail view.nodes trail
+  sound-prefix : (trail more : List TrailEntry) (number : ℕ) (younger : Option (List ℕ)) → IsTrail view.nodes trail
       → number < length trail
       → IsSound view block trail number younger → IsSound view block (trail ++ more) number younger
-  sound-front trail more number younger is inside sound =
+  sound-prefix trail more number younger is inside sound =
       let members : List ℕ = sound.0 in (
         members,
         (
           refl,
-          subst (λ (o : Option ℕ). IsChain (trail ++ more) o members) (sym (earlier_at-front trail more number inside))
-              (chain-front trail more is members number (earlier_at trail number) (node_at trail number) (omega arith)
+          subst (λ (o : Option ℕ). IsChain (trail ++ more) o members) (sym (earlier_at-prefix trail more number inside))
+              (chain-prefix trail more is members number (earlier_at trail number) (node_at trail number) (omega arith)
               (is number inside) sound.1.1),
         ),
         sound.2,
@@ -88,7 +88,7 @@ module _ (view : View) (block : ℕ) where
 
     -- what the new entry has seen
     abbrev younger : Option (List ℕ)
-    younger = behind view block (node_at trail from) (seen_at seen from)
+    younger = cut_after view block (node_at trail from) (seen_at seen from)
 
     -- an entry is an old one or the new one
     old_or_new : (number : ℕ) → number < length further → (number < length trail) ⊎ (number ≡ length trail)
@@ -98,23 +98,24 @@ module _ (view : View) (block : ℕ) where
 
     -- the new one is where it should be
     new_is : slice_get further (length trail) ≡ Some (record { node = to; earlier = Some from })
-    new_is = slice_get-behind trail (record { node = to; earlier = Some from })
+    new_is = slice_get-after trail (record { node = to; earlier = Some from })
 
     -- each entry follows the one before it
     trail_further : IsTrail view.nodes further
     trail_further number inside = elim (old_or_new number inside) [
       | inl old ↦
           subst (λ (o : Option ℕ). LeadsOn view.nodes further number o (node_at further number))
-          (sym (earlier_at-front trail _ number old))
+          (sym (earlier_at-prefix trail _ number old))
           (subst (λ (n : ℕ). LeadsOn view.nodes further number (earlier_at trail number) n)
-          (sym (node_at-front trail _ number old))
-          (leads-front trail _ number (earlier_at trail number) (node_at trail number) old (course.follows number old)))
+          (sym (node_at-prefix trail _ number old))
+          (leads-prefix trail _ number (earlier_at trail number) (node_at trail number) old
+          (course.follows number old)))
       | inr new ↦
           let at : slice_get further number ≡ Some (record { node = to; earlier = Some from }) =
           ap (slice_get further) new ∙ new_is in
           let leads : LeadsOn view.nodes further number (Some from) to = (
             omega (arith, new),
-            subst (λ (n : ℕ). IsSuccessor (graph_step view.nodes) n to) (sym (node_at-front trail _ from from_inside))
+            subst (λ (n : ℕ). IsSuccessor (graph_step view.nodes) n to) (sym (node_at-prefix trail _ from from_inside))
                 edge,
           ) in
           subst (λ (o : Option TrailEntry). LeadsOn view.nodes further number (earlier_of o) (node_of o)) (sym at) leads
@@ -122,17 +123,18 @@ module _ (view : View) (block : ℕ) where
 
     -- the new entry is sound
     sound_new : IsSound view block further (length trail) younger
-    unfolding sound-front
+    unfolding sound-prefix
     sound_new =
         let before = course.sound from from_inside in
         let members : List ℕ = node_at trail from ∷ before.0 in
-        let kept = sound-front trail (record { node = to; earlier = Some from } ∷ []) from (seen_at seen from)
+        let kept = sound-prefix trail (record { node = to; earlier = Some from } ∷ []) from (seen_at seen from)
         course.follows from_inside before in
         let whole : IsChain further (Some from) members =
-        (sym (node_at-front trail _ from from_inside), kept.1.1) in (
+        (sym (node_at-prefix trail _ from from_inside), kept.1.1) in (
           members,
           (refl, subst (λ (o : Option ℕ). IsChain further o members) (sym (ap earlier_of new_is)) whole),
-          left_by-more view block (node_at trail from) before.0 ∙ ap (behind view block (node_at trail from)) before.2,
+          left_by-more view block (node_at trail from) before.0
+              ∙ ap (cut_after view block (node_at trail from)) before.2,
         )
 
     -- each entry is sound
@@ -142,7 +144,7 @@ module _ (view : View) (block : ℕ) where
       | inl old ↦
           subst (IsSound view block further number) (sym (get_or_append_left seen (younger ∷ []) None number
           (omega (arith, course.one_each))))
-          (sound-front trail _ number (seen_at seen number) course.follows old (course.sound number old))
+          (sound-prefix trail _ number (seen_at seen number) course.follows old (course.sound number old))
       | inr new ↦
           subst (IsSound view block further number) (sym (get_or_push seen younger None number
           (course.one_each ∙ sym new)))
@@ -154,7 +156,7 @@ module _ (view : View) (block : ℕ) where
     course_more = record {
       one_each = length_push seen younger ∙ ap (λ n. n + 1) course.one_each ∙ sym (length_push trail _);
       some = omega (arith, course.some, length_push trail (record { node = to; earlier = Some from }));
-      first_node = node_at-front trail _ 0 course.some ∙ course.first_node;
+      first_node = node_at-prefix trail _ 0 course.some ∙ course.first_node;
       first_seen = get_or_append_left seen (younger ∷ []) None 0 (omega (arith, course.one_each, course.some))
           ∙ course.first_seen;
       follows = trail_further;
@@ -207,7 +209,7 @@ between_kept trail trail' seen seen' n younger one_each longer seen_longer betwe
     }
   where
     node : (k : ℕ) → k < length trail → node_at trail' k ≡ node_at trail k
-    node k inside = ap (λ t. node_at t k) longer.1 ∙ node_at-front trail longer.0 k inside
+    node k inside = ap (λ t. node_at t k) longer.1 ∙ node_at-prefix trail longer.0 k inside
 
     set : (k : ℕ) → k < length trail → seen_at seen' k ≡ seen_at seen k
     set k inside = ap (λ s. seen_at s k) seen_longer.1
@@ -241,14 +243,16 @@ paths_between view block trail seen course spread (c ∷ earlier) n path =
     path.0) in
     let high_next = spread high.0 n high.1 (subst (λ (k : ℕ). IsSuccessor (graph_step view.nodes) k n) (sym high.2)
     path.0) in
-    let low_moved : IsBelow (behind view block (node_at trail low.0) (seen_at seen low.0)) (behind view block c left) =
-    subst (λ (k : ℕ). IsBelow (behind view block k (seen_at seen low.0)) (behind view block c left)) (sym low.2)
-    (behind-below view block c (seen_at seen low.0) left (seen-rising view block trail seen low.0 course low.1) rising
+    let low_moved :
+    IsBelow (cut_after view block (node_at trail low.0) (seen_at seen low.0)) (cut_after view block c left) =
+    subst (λ (k : ℕ). IsBelow (cut_after view block k (seen_at seen low.0)) (cut_after view block c left)) (sym low.2)
+    (cut_after-below view block c (seen_at seen low.0) left
+    (seen-rising view block trail seen low.0 course low.1) rising
     low.3) in
-    let high_moved : IsBelow (behind view block c left) (behind view block (node_at trail high.0)
+    let high_moved : IsBelow (cut_after view block c left) (cut_after view block (node_at trail high.0)
     (seen_at seen high.0)) =
-    subst (λ (k : ℕ). IsBelow (behind view block c left) (behind view block k (seen_at seen high.0))) (sym high.2)
-    (behind-below view block c left (seen_at seen high.0) rising
+    subst (λ (k : ℕ). IsBelow (cut_after view block c left) (cut_after view block k (seen_at seen high.0))) (sym high.2)
+    (cut_after-below view block c left (seen_at seen high.0) rising
     (seen-rising view block trail seen high.0 course high.1) high.3) in
     let last = low_next.below in
     let top = high_next.above in
@@ -257,14 +261,14 @@ paths_between view block trail seen course spread (c ∷ earlier) n path =
         last.0,
         last.1,
         last.2,
-        below_trans (seen_at seen last.0) (behind view block (node_at trail low.0) (seen_at seen low.0))
-            (behind view block c left) last.3 low_moved,
+        below_trans (seen_at seen last.0) (cut_after view block (node_at trail low.0) (seen_at seen low.0))
+            (cut_after view block c left) last.3 low_moved,
       );
       above = (
         top.0,
         top.1,
         top.2,
-        below_trans (behind view block c left) (behind view block (node_at trail high.0) (seen_at seen high.0))
+        below_trans (cut_after view block c left) (cut_after view block (node_at trail high.0) (seen_at seen high.0))
             (seen_at seen top.0) high_moved top.3,
       );
     })

@@ -20,16 +20,16 @@ rising-push : (nodes : List ℕ) (last : ℕ) → IsStrictlyIncreasing nodes →
     → IsStrictlyIncreasing (nodes ++ last ∷ [])
 rising-push nodes last rising below k inside =
     let long = length_push nodes last in
-    let front : get_or (nodes ++ last ∷ []) k 0 ≡ get_or nodes k 0 =
+    let prefix : get_or (nodes ++ last ∷ []) k 0 ≡ get_or nodes k 0 =
     get_or_append_left nodes (last ∷ []) 0 k (omega (arith, long, inside)) in
     elim (cases_eq (length nodes) (k + 1)) [
       | inl end ↦
           let at : get_or (nodes ++ last ∷ []) (k + 1) 0 ≡ last = get_or_push nodes last 0 (k + 1) end in
-          omega (arith, front, at, below (get_or nodes k 0) (Contains-get_or nodes k 0 (omega (arith, long, inside))))
+          omega (arith, prefix, at, below (get_or nodes k 0) (Contains-get_or nodes k 0 (omega (arith, long, inside))))
       | inr before ↦
           let next : get_or (nodes ++ last ∷ []) (k + 1) 0 ≡ get_or nodes (k + 1) 0 =
           get_or_append_left nodes (last ∷ []) 0 (k + 1) (omega (arith, long, inside, before)) in
-          omega (arith, front, next, rising k (omega (arith, long, inside, before)))
+          omega (arith, prefix, next, rising k (omega (arith, long, inside, before)))
     ]
 
 -- at first there are none

@@ -10,10 +10,10 @@ use Rattle.path_trail.specs.Trail.{TrailEntry, node_of, node_at}
 use Rattle.set_view.specs.View.{View}
 use Rattle.focus_plain.specs.declared.search.Entry.{Entry}
 use Rattle.focus_plain.specs.declared.search.Search.{Search}
-use Rattle.focus_plain.specs.Cut.{behind}
+use Rattle.focus_plain.specs.Cut.{cut_after}
 use Rattle.focus_plain.specs.Entries.{IsIndex, set_at, trail_entry, trail_of, seen_of, seen_at, latest_at, next_of, index_of, IsCourse, IsBetween}
 use Rattle.focus_plain.specs.Search.{IsLonger, AreLinked, IsSearch, Extends, IsAdded, IsFollowed}
-use Rattle.focus_plain.proofs.Course.{slice_get-front, slice_get-behind, course_more, between_new, between_kept}
+use Rattle.focus_plain.proofs.Course.{slice_get-prefix, slice_get-after, course_more, between_new, between_kept}
 use Rattle.focus_plain.proofs.Table.{set_at-longer, index-longer, longer-grows}
 use Rattle.focus_plain.proofs.Links.{length-trail}
 
@@ -33,7 +33,7 @@ module _ (view : View) (block : ℕ) (old new : Search) (is : IsSearch view bloc
     (from_inside : from < length old.entries.items)
     (edge : IsSuccessor (graph_step view.nodes) (node_at (trail_of old.entries.items) from) to)
     (to_inside : to < length old.latest.items)
-    (added : IsAdded old new from to (behind view block (node_at (trail_of old.entries.items) from)
+    (added : IsAdded old new from to (cut_after view block (node_at (trail_of old.entries.items) from)
     (seen_at (seen_of old.sets.items old.entries.items) from))) where
   -- the entry that was added
   abbrev entry : Entry
@@ -41,7 +41,7 @@ module _ (view : View) (block : ℕ) (old new : Search) (is : IsSearch view bloc
 
   -- what it has seen
   abbrev younger : Option (List ℕ)
-  younger = behind view block (node_at (trail_of old.entries.items) from)
+  younger = cut_after view block (node_at (trail_of old.entries.items) from)
       (seen_at (seen_of old.sets.items old.entries.items) from)
 
   -- the table grew
@@ -75,20 +75,21 @@ module _ (view : View) (block : ℕ) (old new : Search) (is : IsSearch view bloc
   old_entry : (number : ℕ) → number < length old.entries.items
       → slice_get new.entries.items number ≡ slice_get old.entries.items number
   old_entry number inside = ap (λ (es : List Entry). slice_get es number) added.entries
-      ∙ slice_get-front old.entries.items (entry ∷ []) number inside
+      ∙ slice_get-prefix old.entries.items (entry ∷ []) number inside
 
   -- the new entry
   new_entry : (number : ℕ) → number ≡ length old.entries.items → slice_get new.entries.items number ≡ Some entry
   new_entry number last = ap (slice_get new.entries.items) last
       ∙ ap (λ (es : List Entry). slice_get es (length old.entries.items)) added.entries
-      ∙ slice_get-behind old.entries.items entry
+      ∙ slice_get-after old.entries.items entry
 
   -- the node of an old entry
   old_node : (number : ℕ) → number < length old.entries.items
       → node_at (trail_of new.entries.items) number ≡ node_at (trail_of old.entries.items) number
   old_node number inside =
       ap (λ (t : List TrailEntry). node_at t number) trail_is
-      ∙ ap node_of (slice_get-front (trail_of old.entries.items) (record { node = to; earlier = Some from } ∷ []) number
+      ∙ ap node_of
+      (slice_get-prefix (trail_of old.entries.items) (record { node = to; earlier = Some from } ∷ []) number
       (omega (arith, inside, length-trail old.entries.items)))
 
   -- the node of the new entry
@@ -96,7 +97,7 @@ module _ (view : View) (block : ℕ) (old new : Search) (is : IsSearch view bloc
   new_node number last =
       ap (node_at (trail_of new.entries.items)) (last ∙ sym (length-trail old.entries.items))
       ∙ ap (λ (t : List TrailEntry). node_at t (length (trail_of old.entries.items))) trail_is
-      ∙ ap node_of (slice_get-behind (trail_of old.entries.items) (record { node = to; earlier = Some from }))
+      ∙ ap node_of (slice_get-after (trail_of old.entries.items) (record { node = to; earlier = Some from }))
 
   -- the last entry at each node
   latest_kept : (n number : ℕ) → latest_at new.latest.items n ≡ Some number
@@ -143,7 +144,7 @@ module _ (view : View) (block : ℕ) (old new : Search) (is : IsSearch view bloc
         few = added.few;
         few_sets = omega (arith, grown, longer_by_one, is.linked.few_sets);
         first = ap (λ (s : List (List ℕ)). slice_get s 0) sets_longer.1
-            ∙ slice_get-front old.sets.items sets_longer.0 0 some ∙ is.linked.first;
+            ∙ slice_get-prefix old.sets.items sets_longer.0 0 some ∙ is.linked.first;
         rising = added.rising;
         indices = λ number inside. elim (old_or_new number inside) [
           | inl before ↦ index-longer old.sets.items new.sets.items (index_of (slice_get new.entries.items number))
@@ -231,7 +232,7 @@ pub stepped : (view : View) (block : ℕ) (old new : Search) (from : ℕ) (to : 
     → IsSearch view block old → from < length old.entries.items
     → ((m : ℕ) → to ≡ Some m → IsSuccessor (graph_step view.nodes) (node_at (trail_of old.entries.items) from) m)
     → ((m : ℕ) → to ≡ Some m → m < length old.latest.items)
-    → younger ≡ behind view block (node_at (trail_of old.entries.items) from)
+    → younger ≡ cut_after view block (node_at (trail_of old.entries.items) from)
     (seen_at (seen_of old.sets.items old.entries.items) from)
     → IsFollowed old new from to younger → IsStepped view block old new to younger
 stepped view block old new from None younger is inside edges ends value followed =

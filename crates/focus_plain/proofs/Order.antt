@@ -10,7 +10,7 @@ use Rattle.focus_spec.specs.Focus.{younger_after}
 use Rattle.set_list.specs.RisingSets.{rising-empty, subset-short}
 use Rattle.focus_spec.proofs.WithNumber.{Contains-with_number, rising-with_number}
 use Rattle.set_view.specs.View.{View}
-use Rattle.focus_plain.specs.Cut.{cut, IsBelow, left_by, behind}
+use Rattle.focus_plain.specs.Cut.{cut, IsBelow, left_by, cut_after}
 
 -- a younger set rises, if it is there
 abbrev pub IsRising : Option (List ℕ) → Type 0
@@ -112,10 +112,10 @@ left_by-rising view block members = cut-rising view.geometry.ways (younger_after
     (younger-rising block (map (fetch_at view.fetches) members))
 
 -- a node keeps the order
-pub behind-below : (view : View) (block n : ℕ) (one two : Option (List ℕ)) → IsRising one → IsRising two
+pub cut_after-below : (view : View) (block n : ℕ) (one two : Option (List ℕ)) → IsRising one → IsRising two
     → IsBelow one two
-    → IsBelow (behind view block n one) (behind view block n two)
-behind-below view block n one two rising two_rising below =
+    → IsBelow (cut_after view block n one) (cut_after view block n two)
+cut_after-below view block n one two rising two_rising below =
     let fetch : Option ℕ = fetch_at view.fetches n in
     cut-below view.geometry.ways (after block fetch one) (after block fetch two) (after-rising block fetch one rising)
     (after-rising block fetch two two_rising)
@@ -143,7 +143,7 @@ cut-after ways block (Some other) (Some set) rising = elim (cases_lt (length set
 
 -- one member further
 pub left_by-more : (view : View) (block n : ℕ) (members : List ℕ)
-    → left_by view block (n ∷ members) ≡ behind view block n (left_by view block members)
+    → left_by view block (n ∷ members) ≡ cut_after view block n (left_by view block members)
 left_by-more view block n members =
     sym (cut-after view.geometry.ways block (fetch_at view.fetches n) (younger_after view.fetches block members)
     (younger-rising block (map (fetch_at view.fetches) members)))

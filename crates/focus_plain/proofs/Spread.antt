@@ -13,11 +13,11 @@ use Rattle.set_view.specs.View.{View}
 use Rattle.focus_plain.specs.declared.reach.Reach.{Reach}
 use Rattle.focus_plain.specs.declared.search.Entry.{Entry}
 use Rattle.focus_plain.specs.declared.search.Search.{Search}
-use Rattle.focus_plain.specs.Cut.{cut, behind}
+use Rattle.focus_plain.specs.Cut.{cut, cut_after}
 use Rattle.focus_plain.specs.Entries.{set_at, reached_set, IsReachable, trail_of, seen_of, seen_at, IsCourse, IsBetween}
 use Rattle.focus_plain.specs.Search.{IsSearch, Extends, IsFollowed}
 use Rattle.focus_plain.proofs.Order.{cut-cut}
-use Rattle.focus_plain.proofs.Course.{node_at-front}
+use Rattle.focus_plain.proofs.Course.{node_at-prefix}
 use Rattle.focus_plain.proofs.Table.{reached-longer}
 use Rattle.focus_plain.proofs.Links.{entry_read, node-read, seen-read, length-trail, length-seen}
 use Rattle.focus_plain.proofs.Followed.{IsStepped, stepped, extends_trans, between_extended}
@@ -36,7 +36,7 @@ pub record AreStepped (view : View) (block : ℕ) (old new : Search) (index : �
   pub extends : Extends old new
   pub between : (m : ℕ) → IsSuccessor (graph_step view.nodes) (node_at (trail_of old.entries.items) index) m
       → IsBetween (trail_of new.entries.items) (seen_of new.sets.items new.entries.items) m
-      (behind view block (node_at (trail_of old.entries.items) index)
+      (cut_after view block (node_at (trail_of old.entries.items) index)
       (seen_at (seen_of old.sets.items old.entries.items) index))
 
 module _ (view : View) (block : ℕ) (old : Search) (is : IsSearch view block old) (index : ℕ)
@@ -68,7 +68,8 @@ module _ (view : View) (block : ℕ) (old : Search) (is : IsSearch view block ol
   module _ (nodes : List Node) (same : nodes ≡ view.nodes) (none : Node)
       (law : (n m : ℕ) → IsSuccessor (graph_step view.nodes) n m → m < length view.nodes)
       (reached : Option Reach) (reachable : IsReachable old.sets.items reached)
-      (value : reached_set old.sets.items reached ≡ behind view block entry.node (set_at old.sets.items entry.younger))
+      (value : reached_set old.sets.items reached
+      ≡ cut_after view block entry.node (set_at old.sets.items entry.younger))
     where
       -- the node's successors
       abbrev node : Node
@@ -83,15 +84,15 @@ module _ (view : View) (block : ℕ) (old : Search) (is : IsSearch view block ol
 
       -- what is left after the node
       abbrev younger : Option (List ℕ)
-      younger = behind view block (node_at (trail_of old.entries.items) index)
+      younger = cut_after view block (node_at (trail_of old.entries.items) index)
           (seen_at (seen_of old.sets.items old.entries.items) index)
 
       -- is what is reached
       value_is : reached_set old.sets.items reached ≡ younger
       value_is =
           value
-          ∙ ap (λ (n : ℕ). behind view block n (set_at old.sets.items entry.younger)) (sym node_is)
-          ∙ ap (behind view block (node_at (trail_of old.entries.items) index)) (sym seen_is)
+          ∙ ap (λ (n : ℕ). cut_after view block n (set_at old.sets.items entry.younger)) (sym node_is)
+          ∙ ap (cut_after view block (node_at (trail_of old.entries.items) index)) (sym seen_is)
 
       -- a successor is one of the graph's nodes
       ends : (m : ℕ) → IsSuccessor (graph_step view.nodes) (node_at (trail_of old.entries.items) index) m
@@ -131,7 +132,7 @@ module _ (view : View) (block : ℕ) (old : Search) (is : IsSearch view block ol
           node_still : node_at (trail_of middle.entries.items) index ≡ node_at (trail_of old.entries.items) index
           node_still =
               ap (λ (t : List TrailEntry). node_at t index) first_stepped.extends.trail.1
-              ∙ node_at-front (trail_of old.entries.items) first_stepped.extends.trail.0 index
+              ∙ node_at-prefix (trail_of old.entries.items) first_stepped.extends.trail.0 index
               (omega (arith, inside, length-trail old.entries.items))
 
           -- and has seen the same
@@ -148,13 +149,13 @@ module _ (view : View) (block : ℕ) (old : Search) (is : IsSearch view block ol
 
           -- where it goes on from there
           value_still : reached_set middle.sets.items reached
-              ≡ behind view block (node_at (trail_of middle.entries.items) index)
+              ≡ cut_after view block (node_at (trail_of middle.entries.items) index)
               (seen_at (seen_of middle.sets.items middle.entries.items) index)
           value_still =
               reached_still ∙ value_is
-              ∙ ap (λ (n : ℕ). behind view block n (seen_at (seen_of old.sets.items old.entries.items) index))
+              ∙ ap (λ (n : ℕ). cut_after view block n (seen_at (seen_of old.sets.items old.entries.items) index))
               (sym node_still)
-              ∙ ap (behind view block (node_at (trail_of middle.entries.items) index)) (sym seen_still)
+              ∙ ap (cut_after view block (node_at (trail_of middle.entries.items) index)) (sym seen_still)
 
           -- the second edge
           second_edge : (m : ℕ) → node.second ≡ Some m
@@ -197,7 +198,7 @@ pub value_from : (view : View) (block n : ℕ) (table sets : List (List ℕ)) (w
     (reached : Option Reach) → table ≡ sets
     → ways ≡ view.geometry.ways → fetch ≡ fetch_at view.fetches n
     → reached_set table reached ≡ cut ways (after block fetch (set_at table younger))
-    → reached_set sets reached ≡ behind view block n (set_at sets younger)
+    → reached_set sets reached ≡ cut_after view block n (set_at sets younger)
 value_from view block n table sets ways fetch younger reached same ways_is fetch_is value =
     ap (λ (s : List (List ℕ)). reached_set s reached) (sym same) ∙ value
     ∙ ap (λ (s : List (List ℕ)). cut ways (after block fetch (set_at s younger))) same

@@ -26,5 +26,5 @@ abbrev pub left_by : View → ℕ → List ℕ → Option (List ℕ)
 left_by view block members = cut view.geometry.ways (younger_after view.fetches block members)
 
 -- what a node makes of the younger set before it
-abbrev pub behind : View → ℕ → ℕ → Option (List ℕ) → Option (List ℕ)
-behind view block n younger = cut view.geometry.ways (after block (fetch_at view.fetches n) younger)
+abbrev pub cut_after : View → ℕ → ℕ → Option (List ℕ) → Option (List ℕ)
+cut_after view block n younger = cut view.geometry.ways (after block (fetch_at view.fetches n) younger)

@@ -7,7 +7,7 @@ use Rattle.focus_spec.specs.Younger.{with_number}
 use Rattle.set_view.specs.View.{View}
 use Rattle.focus_plain.specs.declared.search.Entry.{Entry}
 use Rattle.focus_plain.specs.declared.reach.Reach.{Reach}
-use Rattle.focus_plain.specs.Cut.{IsBelow, left_by, behind}
+use Rattle.focus_plain.specs.Cut.{IsBelow, left_by, cut_after}
 
 -- the set with one more number, if there is one
 abbrev pub with_more : Option ℕ → List ℕ → List ℕ
@@ -85,7 +85,7 @@ pub record IsBetween (trail : List TrailEntry) (seen : List (Option (List ℕ)))
 abbrev pub IsSpread : View → ℕ → List TrailEntry → List (Option (List ℕ)) → ℕ → Type 0
 IsSpread view block trail seen count = (number m : ℕ) → number < count
     → IsSuccessor (graph_step view.nodes) (node_at trail number) m
-    → IsBetween trail seen m (behind view block (node_at trail number) (seen_at seen number))
+    → IsBetween trail seen m (cut_after view block (node_at trail number) (seen_at seen number))
 
 -- the number of the entry that was made last at a node
 abbrev pub latest_at : List (Option ℕ) → ℕ → Option ℕ

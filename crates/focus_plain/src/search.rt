@@ -3,7 +3,7 @@ ghost use Rattle.std.specs.Prelude.{◌≡◌, ◌<◌, ◌≤◌, ◌^◌, ℕ,
 ghost use Rattle.transition_spec.specs.Path.{IsSuccessor};
 ghost use Rattle.path_model.specs.Graph.{graph_step};
 ghost use Rattle.path_trail.specs.Trail.{node_at};
-ghost use Rattle.focus_plain.specs.Cut.{IsBelow, behind};
+ghost use Rattle.focus_plain.specs.Cut.{IsBelow, cut_after};
 ghost use Rattle.focus_plain.specs.Entries.{set_at, reached_set, IsIndex, IsReachable, IsBetween, IsSpread, trail_of, seen_of, seen_at};
 ghost use Rattle.focus_plain.specs.Search.{Grows, AreRising, IsAdded, IsFollowed, AreLinked, IsSearch, Extends};
 
@@ -109,7 +109,7 @@ fn spread(search: &mut Search, view: &SetView, block: u16, index: u32) -> Result
         let seen = seen_of search.old.sets.items search.old.entries.items in
         IsSuccessor (graph_step view.now.nodes) node m
         → IsBetween (trail_of search.new.entries.items) (seen_of search.new.sets.items search.new.entries.items) m
-        (behind view.now block node (seen_at seen index))) }
+        (cut_after view.now block node (seen_at seen index))) }
 {
     graph_laws();
     let entry = search.entries[index as usize];

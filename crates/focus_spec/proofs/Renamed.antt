@@ -4,7 +4,7 @@ use Rattle.std.proofs.lemmas.Bool.{cases_eq, cases_order, ne_eqb}
 use Rattle.std.proofs.lemmas.List.Elements.{Contains-append_right}
 use Rattle.std.proofs.lemmas.List.Kept.{AllPairs-from_increasing}
 use Rattle.std.specs.List.Sorted.{IsStrictlyIncreasing}
-use Rattle.set_list.specs.Rising.{Contains-front}
+use Rattle.set_list.specs.Rising.{Contains-cons}
 use Rattle.focus_spec.specs.Younger.{with_number, after, younger, named}
 use Rattle.focus_spec.proofs.WithNumber.{with_number-below, with_number-first, with_number-above, Contains-with_number}
 
@@ -34,8 +34,8 @@ map-with_number : (blocks : List ℕ) (x : ℕ) (set : List ℕ) → IsStrictlyI
     → with_number (named blocks x) (map (named blocks) set) ≡ map (named blocks) (with_number x set)
 map-with_number blocks x [] up inside places = refl
 map-with_number blocks x (z ∷ zs) up inside places =
-    let z_inside = places z ((Contains-front z zs z).1 (inr refl)) in
-    let behind = λ (local : ℕ) (there : Contains zs local). places local
+    let z_inside = places z ((Contains-cons z zs z).1 (inr refl)) in
+    let later = λ (local : ℕ) (there : Contains zs local). places local
     (Contains-append_right (z ∷ []) zs local there) in
     elim (cases_order x z) [
       | inl same ↦
@@ -49,7 +49,7 @@ map-with_number blocks x (z ∷ zs) up inside places =
         | inr above ↦
             with_number-above (named blocks x) (named blocks z) (map (named blocks) zs)
             (named-lt blocks z x up above inside)
-            ∙ ap (λ s. named blocks z ∷ s) (map-with_number blocks x zs up inside behind)
+            ∙ ap (λ s. named blocks z ∷ s) (map-with_number blocks x zs up inside later)
             ∙ ap (map (named blocks)) (sym (with_number-above x z zs above))
       ]
     ]
@@ -146,7 +146,7 @@ younger-named blocks block [] up inside places = refl
 younger-named blocks block (None ∷ earlier) up inside places =
     younger-named blocks block earlier up inside (places-tail blocks None earlier places)
 younger-named blocks block (Some other ∷ earlier) up inside places =
-    let behind = places-tail blocks (Some other) earlier places in
-    ap (after (named blocks block) (Some (named blocks other))) (younger-named blocks block earlier up inside behind)
+    let later = places-tail blocks (Some other) earlier places in
+    ap (after (named blocks block) (Some (named blocks other))) (younger-named blocks block earlier up inside later)
     ∙ after-named blocks block other (younger block earlier) up inside (places-head blocks other earlier places)
-    (places-younger blocks block earlier behind)
+    (places-younger blocks block earlier later)

@@ -3,7 +3,7 @@ use Rattle.std.proofs.Common.{◌≡◌, ℕ, ◌↔◌, List, [], ◌∷◌, �
 use Rattle.std.proofs.lemmas.Bool.{cases_eq}
 use Rattle.std.proofs.lemmas.List.Elements.{Contains-append_right}
 use Rattle.std.proofs.lemmas.Option.{none-some}
-use Rattle.set_list.specs.Rising.{Contains-front}
+use Rattle.set_list.specs.Rising.{Contains-cons}
 use Rattle.focus_spec.specs.Younger.{with_number, younger}
 use Rattle.focus_spec.proofs.WithNumber.{Contains-with_number}
 use Rattle.focus_spec.proofs.Renamed.{after-own, after-other}
@@ -32,10 +32,10 @@ has-more : (x : ℕ) (newer : List (Option ℕ)) (other : ℕ) (set : List ℕ) 
     → HasBlocks (Some x ∷ newer) other (with_number x set)
 has-more x newer other set has = (
   λ there. elim ((Contains-with_number x set other).0 there) [
-    | inl old ↦ (Contains-front (Some x) newer (Some other)).1 (inl (has.0 old))
-    | inr same ↦ (Contains-front (Some x) newer (Some other)).1 (inr (ap (λ n. Some n) same))
+    | inl old ↦ (Contains-cons (Some x) newer (Some other)).1 (inl (has.0 old))
+    | inr same ↦ (Contains-cons (Some x) newer (Some other)).1 (inr (ap (λ n. Some n) same))
   ],
-  λ there. elim ((Contains-front (Some x) newer (Some other)).0 there) [
+  λ there. elim ((Contains-cons (Some x) newer (Some other)).0 there) [
     | inl later ↦ (Contains-with_number x set other).1 (inl (has.1 later))
     | inr same ↦ (Contains-with_number x set other).1 (inr (same_some other x same))
   ],
@@ -52,8 +52,8 @@ younger-since block (None ∷ newer) older set other apart is =
     let later = λ (b : ℕ) (there : Contains newer (Some b)). Contains-append_right (None ∷ []) newer (Some b) there in
     let rest = younger-since block newer older set other (λ there. apart (later block there)) is in (
       λ there. later other (rest.0 there),
-      λ there. elim ((Contains-front None newer (Some other)).0 there) [
-        | inl behind ↦ rest.1 behind
+      λ there. elim ((Contains-cons None newer (Some other)).0 there) [
+        | inl beyond ↦ rest.1 beyond
         | inr same ↦ absurd (none-some other (sym same))
       ],
     )
@@ -71,8 +71,8 @@ pub younger-none : (block : ℕ) (fetches : List (Option ℕ))
 younger-none block [] = (λ _ there. absurd (omega (arith, there.1)), λ _. refl)
 younger-none block (None ∷ earlier) =
     let rest = younger-none block earlier in (
-      λ is there. elim ((Contains-front None earlier (Some block)).0 there) [
-        | inl behind ↦ rest.0 is behind
+      λ is there. elim ((Contains-cons None earlier (Some block)).0 there) [
+        | inl beyond ↦ rest.0 is beyond
         | inr same ↦ absurd (none-some block (sym same))
       ],
       λ absent. rest.1 (λ there. absent (Contains-append_right (None ∷ []) earlier (Some block) there)),
@@ -86,8 +86,8 @@ younger-none block (Some x ∷ earlier) =
         λ absent. absurd (absent (0, omega arith, ap (λ n. Some n) same)),
       )
       | inr differ ↦ (
-        λ is there. elim ((Contains-front (Some x) earlier (Some block)).0 there) [
-          | inl behind ↦ rest.0 (mapped_none (with_number x) known (sym (after-other block x known differ) ∙ is)) behind
+        λ is there. elim ((Contains-cons (Some x) earlier (Some block)).0 there) [
+          | inl beyond ↦ rest.0 (mapped_none (with_number x) known (sym (after-other block x known differ) ∙ is)) beyond
           | inr same ↦ differ (sym (same_some block x same))
         ],
         λ absent. after-other block x known differ

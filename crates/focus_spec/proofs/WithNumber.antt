@@ -4,9 +4,9 @@ use Rattle.std.proofs.lemmas.Bool.{cases_order}
 use Rattle.std.proofs.lemmas.Bool.Decides.{nat_tests}
 use Rattle.std.proofs.lemmas.List.Elements.{Contains-append_right}
 use Rattle.std.specs.List.Sorted.{IsStrictlyIncreasing}
-use Rattle.set_list.specs.Rising.{Contains-front}
+use Rattle.set_list.specs.Rising.{Contains-cons}
 use Rattle.focus_spec.specs.Younger.{with_number}
-use Rattle.set_list.specs.RisingSets.{rising-one, rising-cons, rising-tail, first_below, not_below_first, behind_first, same_from_subsets}
+use Rattle.set_list.specs.RisingSets.{rising-one, rising-cons, rising-tail, first_below, not_below_first, after_first, same_from_subsets}
 
 -- below the first number it stands first
 pub with_number-below : (x y : ℕ) (ys : List ℕ) → x < y → with_number x (y ∷ ys) ≡ x ∷ y ∷ ys
@@ -28,35 +28,35 @@ HasNumbers x set y longer = Contains longer y ↔ (Contains set y ⊎ (y ≡ x))
 has-first : (x z : ℕ) (zs : List ℕ) (y : ℕ) → x ≡ z → HasNumbers x (z ∷ zs) y (z ∷ zs)
 has-first x z zs y same = (
   λ there. inl there,
-  λ either. elim either [ inl there ↦ there | inr is ↦ (Contains-front z zs y).1 (inr (is ∙ same)) ],
+  λ either. elim either [ inl there ↦ there | inr is ↦ (Contains-cons z zs y).1 (inr (is ∙ same)) ],
 )
 
 -- where x belongs after the first number
-has-behind : (x z : ℕ) (zs longer : List ℕ) (y : ℕ) → HasNumbers x zs y longer → HasNumbers x (z ∷ zs) y (z ∷ longer)
-has-behind x z zs longer y behind = (
-  λ there. elim ((Contains-front z longer y).0 there) [
-    | inl later ↦ elim (behind.0 later) [ inl old ↦ inl ((Contains-front z zs y).1 (inl old)) | inr is ↦ inr is ]
-    | inr first ↦ inl ((Contains-front z zs y).1 (inr first))
+has-after : (x z : ℕ) (zs longer : List ℕ) (y : ℕ) → HasNumbers x zs y longer → HasNumbers x (z ∷ zs) y (z ∷ longer)
+has-after x z zs longer y beyond = (
+  λ there. elim ((Contains-cons z longer y).0 there) [
+    | inl later ↦ elim (beyond.0 later) [ inl old ↦ inl ((Contains-cons z zs y).1 (inl old)) | inr is ↦ inr is ]
+    | inr first ↦ inl ((Contains-cons z zs y).1 (inr first))
   ],
   λ either. elim either [
-    | inl old ↦ elim ((Contains-front z zs y).0 old) [
-      | inl later ↦ (Contains-front z longer y).1 (inl (behind.1 (inl later)))
-      | inr first ↦ (Contains-front z longer y).1 (inr first)
+    | inl old ↦ elim ((Contains-cons z zs y).0 old) [
+      | inl later ↦ (Contains-cons z longer y).1 (inl (beyond.1 (inl later)))
+      | inr first ↦ (Contains-cons z longer y).1 (inr first)
     ]
-    | inr is ↦ (Contains-front z longer y).1 (inl (behind.1 (inr is)))
+    | inr is ↦ (Contains-cons z longer y).1 (inl (beyond.1 (inr is)))
   ],
 )
 
 -- the numbers of the list with x are those of the list, and x
 pub Contains-with_number : (x : ℕ) (set : List ℕ) (y : ℕ) → Contains (with_number x set) y ↔ (Contains set y ⊎ (y ≡ x))
-Contains-with_number x [] y = Contains-front x [] y
+Contains-with_number x [] y = Contains-cons x [] y
 Contains-with_number x (z ∷ zs) y = elim (cases_order x z) [
   | inl same ↦ subst (HasNumbers x (z ∷ zs) y) (sym (with_number-first x z zs same)) (has-first x z zs y same)
   | inr other ↦ elim other [
-    | inl below ↦ subst (HasNumbers x (z ∷ zs) y) (sym (with_number-below x z zs below)) (Contains-front x (z ∷ zs) y)
+    | inl below ↦ subst (HasNumbers x (z ∷ zs) y) (sym (with_number-below x z zs below)) (Contains-cons x (z ∷ zs) y)
     | inr above ↦
-        let behind = has-behind x z zs (with_number x zs) y (Contains-with_number x zs y) in
-        subst (HasNumbers x (z ∷ zs) y) (sym (with_number-above x z zs above)) behind
+        let beyond = has-after x z zs (with_number x zs) y (Contains-with_number x zs y) in
+        subst (HasNumbers x (z ∷ zs) y) (sym (with_number-above x z zs above)) beyond
   ]
 ]
 
@@ -70,7 +70,7 @@ first-above y x (z ∷ zs) above bound =
       | inl same ↦ rw (with_number-first x z zs same) old
       | inr other ↦ elim other [
         | inl below ↦ rw (with_number-below x z zs below) above
-        | inr behind ↦ rw (with_number-above x z zs behind) old
+        | inr beyond ↦ rw (with_number-above x z zs beyond) old
       ]
     ]
 
@@ -84,9 +84,9 @@ rising-with_number x (z ∷ zs) up = elim (cases_order x z) [
         (rising-cons x (z ∷ zs) (λ _. below) up)
     | inr above ↦
         let first = first-above z x zs above (first_below z zs up) in
-        let behind = rising-with_number x zs (rising-tail z zs up) in
+        let beyond = rising-with_number x zs (rising-tail z zs up) in
         subst (λ (s : List ℕ). IsStrictlyIncreasing s) (sym (with_number-above x z zs above))
-        (rising-cons z (with_number x zs) (λ _. first) behind)
+        (rising-cons z (with_number x zs) (λ _. first) beyond)
   ]
 ]
 
@@ -98,8 +98,8 @@ with_number-present x (z ∷ zs) up there = elim (cases_order x z) [
   | inr other ↦ elim other [
     | inl below ↦ let least = not_below_first z zs x up there in absurd (omega arith)
     | inr above ↦
-        let behind = with_number-present x zs (rising-tail z zs up) (behind_first z zs x above there) in
-        with_number-above x z zs above ∙ ap (λ s. z ∷ s) behind
+        let beyond = with_number-present x zs (rising-tail z zs up) (after_first z zs x above there) in
+        with_number-above x z zs above ∙ ap (λ s. z ∷ s) beyond
   ]
 ]
 
@@ -107,12 +107,12 @@ with_number-present x (z ∷ zs) up there = elim (cases_order x z) [
 pub length-with_number : (x : ℕ) (set : List ℕ) → (Contains set x → ⊥) → length (with_number x set) ≡ length set + 1
 length-with_number x [] new = refl
 length-with_number x (z ∷ zs) new = elim (cases_order x z) [
-  | inl same ↦ absurd (new ((Contains-front z zs x).1 (inr same)))
+  | inl same ↦ absurd (new ((Contains-cons z zs x).1 (inr same)))
   | inr other ↦ elim other [
     | inl below ↦ omega (arith, ap length (with_number-below x z zs below))
     | inr above ↦
-        let behind = length-with_number x zs (λ there. new (Contains-append_right (z ∷ []) zs x there)) in
-        omega (arith, ap length (with_number-above x z zs above), behind)
+        let beyond = length-with_number x zs (λ there. new (Contains-append_right (z ∷ []) zs x there)) in
+        omega (arith, ap length (with_number-above x z zs above), beyond)
   ]
 ]
 

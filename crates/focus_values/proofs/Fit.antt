@@ -1,7 +1,7 @@
 -- The families stay fit: small sets of local numbers, none of which is included in another.
 use Rattle.std.proofs.Common.{◌≡◌, ℕ, ◌<◌, true, List, [], ◌∷◌, Option, Some, None, Contains, inl, inr, sym, subst, ◌∙◌, arith}
 use Rattle.std.proofs.lemmas.Bool.{lt-ltb}
-use Rattle.set_list.specs.Rising.{Contains-front}
+use Rattle.set_list.specs.Rising.{Contains-cons}
 use Rattle.focus_values.specs.Marks.{Setting, is_set}
 use Rattle.focus_values.specs.Families.{AreSets, AreHighest, AreLowest, AreFit, sets_in, SameSets, SameMost, IsLeastAfter, IsMostAfter, IsLeastJoined, IsMostJoined}
 use Rattle.focus_values.proofs.Small.{with-set}
@@ -24,7 +24,7 @@ fit-begin g = record { least_sets = none_sets g; lowest = none_lowest; most_sets
 
 -- a family of one set has that set
 pub one_set : (s t : List ℕ) → Contains (t ∷ []) s → s ≡ t
-one_set s t there = elim ((Contains-front t [] s).0 there) [
+one_set s t there = elim ((Contains-cons t [] s).0 there) [
   | inl none ↦ absurd (omega (arith, none.1))
   | inr same ↦
       same

@@ -3,7 +3,7 @@ use Rattle.std.proofs.Common.{◌≡◌, ℕ, zero, suc, ◌+◌, ◌≤◌, Boo
 use Rattle.std.proofs.lemmas.Bool.{and_parts, and_from, cases_Bool, both_ways, ltb-true, lt-ltb}
 use Rattle.std.specs.List.{list_any}
 use Rattle.set_list.specs.SetList.{IsSubset}
-use Rattle.set_list.specs.Rising.{Contains-front}
+use Rattle.set_list.specs.Rising.{Contains-cons}
 use Rattle.plain_family.specs.Family.{AreRising, IsMinimal, IsMaximal}
 use Rattle.plain_family.proofs.Smaller.{IsSmaller, minimal_from_none, maximal_from_none}
 use Rattle.focus_values.specs.Tests.{found_from_any, any_from_found}
@@ -73,7 +73,7 @@ total (s ∷ sets) = length s + total sets
 within_total : (sets : List (List ℕ)) (s : List ℕ) → Contains sets s → length s ≤ total sets
 unfolding total
 within_total [] s there = absurd (omega (arith, there.1))
-within_total (first ∷ sets) s there = elim ((Contains-front first sets s).0 there) [
+within_total (first ∷ sets) s there = elim ((Contains-cons first sets s).0 there) [
   | inl rest ↦ omega (arith, within_total sets s rest)
   | inr same ↦ omega (arith, ap length same)
 ]

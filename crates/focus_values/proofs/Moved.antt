@@ -5,7 +5,7 @@ use Rattle.std.proofs.lemmas.Bool.{and_parts, and_from, cases_Bool, cases_eq, bo
 use Rattle.std.specs.List.{list_any, filter}
 use Rattle.list_lemmas.proofs.Members.{has-map}
 use Rattle.set_list.specs.SetList.{IsSubset}
-use Rattle.set_list.specs.Rising.{Contains-front}
+use Rattle.set_list.specs.Rising.{Contains-cons}
 use Rattle.plain_family.specs.Family.{IsWith}
 use Rattle.set_list.specs.RisingSets.{smaller_or_same, subset-short}
 use Rattle.focus_spec.specs.Younger.{with_number}
@@ -24,12 +24,12 @@ Contains-filter : {X : Type 0} (p : X → Bool) (xs : List X) (x : X) → Contai
 Contains-filter p [] x there passes = there
 Contains-filter {X} p (y ∷ ys) x there passes = elim (cases_Bool (p y)) [
   | inl kept ↦ subst (λ (t : List X). Contains t x) (sym (cond-true (p y) (y ∷ filter p ys) (filter p ys) kept))
-      (elim ((Contains-front y ys x).0 there) [
-        | inl rest ↦ (Contains-front y (filter p ys) x).1 (inl (Contains-filter p ys x rest passes))
-        | inr first ↦ (Contains-front y (filter p ys) x).1 (inr first)
+      (elim ((Contains-cons y ys x).0 there) [
+        | inl rest ↦ (Contains-cons y (filter p ys) x).1 (inl (Contains-filter p ys x rest passes))
+        | inr first ↦ (Contains-cons y (filter p ys) x).1 (inr first)
       ])
   | inr gone ↦ subst (λ (t : List X). Contains t x) (sym (cond-false (p y) (y ∷ filter p ys) (filter p ys) gone))
-      (elim ((Contains-front y ys x).0 there) [
+      (elim ((Contains-cons y ys x).0 there) [
         | inl rest ↦ Contains-filter p ys x rest passes
         | inr first ↦ absurd (both_ways (p y) gone (sym (ap p first) ∙ passes))
       ])
@@ -39,7 +39,7 @@ Contains-filter {X} p (y ∷ ys) x there passes = elim (cases_Bool (p y)) [
 filter-passes : {X : Type 0} (p : X → Bool) (xs : List X) (x : X) → Contains (filter p xs) x → p x ≡ true
 filter-passes p [] x there = absurd (omega (arith, there.1))
 filter-passes {X} p (y ∷ ys) x there = elim (cases_Bool (p y)) [
-  | inl kept ↦ elim ((Contains-front y (filter p ys) x).0
+  | inl kept ↦ elim ((Contains-cons y (filter p ys) x).0
       (subst (λ (t : List X). Contains t x) (cond-true (p y) (y ∷ filter p ys) (filter p ys) kept) there)) [
         | inl rest ↦ filter-passes p ys x rest
         | inr first ↦ ap p first ∙ kept
@@ -52,10 +52,10 @@ filter-passes {X} p (y ∷ ys) x there = elim (cases_Bool (p y)) [
 map-source : {X Y : Type 0} (f : X → Y) (xs : List X) (y : Y) → Contains (map f xs) y
     → (x : X) × Contains xs x × (y ≡ f x)
 map-source f [] y there = absurd (omega (arith, there.1))
-map-source f (first ∷ xs) y there = elim ((Contains-front (f first) (map f xs) y).0 there) [
+map-source f (first ∷ xs) y there = elim ((Contains-cons (f first) (map f xs) y).0 there) [
   | inl rest ↦ let source = map-source f xs y rest in
-      (source.0, (Contains-front first xs source.0).1 (inl source.1), source.2)
-  | inr same ↦ (first, (Contains-front first xs first).1 (inr refl), same)
+      (source.0, (Contains-cons first xs source.0).1 (inl source.1), source.2)
+  | inr same ↦ (first, (Contains-cons first xs first).1 (inr refl), same)
 ]
 
 -- a value that is there isn't absent
@@ -103,13 +103,13 @@ module _ (g : Setting) (other : ℕ) (least : List (List ℕ)) where
       → list_any (Before most) (lost_sources g other) ≡ true
   lost_there None sets is =
       any_from_found (Before None) (lost_sources g other) lost
-      ((Contains-front lost (map under (filter (fills g other) (all_sets g))) lost).1 (inr refl)) refl
+      ((Contains-cons lost (map under (filter (fills g other) (all_sets g))) lost).1 (inr refl)) refl
   lost_there (Some many) sets is =
       let t_is = sets is.0 is.2 in
       let full = Contains-filter (fills g other) (all_sets g) is.0 (listed g is.0 t_is)
       (fills_from g other is.0 is.1 t_is is.3 is.4) in
       any_from_found (Before (Some many)) (lost_sources g other) (under is.0)
-      ((Contains-front lost (map under (filter (fills g other) (all_sets g))) (under is.0)).1
+      ((Contains-cons lost (map under (filter (fills g other) (all_sets g))) (under is.0)).1
       (inl (has-map under (filter (fills g other) (all_sets g)) is.0 full)))
       (marks_from g least (Some many) (under is.0) t_is (is.0, is.2, λ x there. there))
 
@@ -121,7 +121,7 @@ module _ (g : Setting) (other : ℕ) (least : List (List ℕ)) where
   lost_back (Some many) None sets is comes = refl
   lost_back (Some many) (Some new) sets is comes =
       let found = found_from_any (Before (Some many)) (lost_sources g other) comes in
-      elim ((Contains-front lost (map under (filter (fills g other) (all_sets g))) found.0).0 found.1) [
+      elim ((Contains-cons lost (map under (filter (fills g other) (all_sets g))) found.0).0 found.1) [
         | inl full ↦
             let source = map-source under (filter (fills g other) (all_sets g)) found.0 full in
             let mark = marks-true g least (Some many) (under source.0)
@@ -144,7 +144,7 @@ module _ (g : Setting) (other : ℕ) (least : List (List ℕ)) where
       let there = has_from s other (said.2 other ((source.2.members other).1 (inr refl))) in
       subst (λ (sources : List Mark). list_any (Before most) sources ≡ true)
       (sym (cond-true (has s other) (over s ∷ []) [] there))
-      (any_from_found (Before most) (over s ∷ []) (over s) ((Contains-front (over s) [] (over s)).1 (inr refl))
+      (any_from_found (Before most) (over s ∷ []) (over s) ((Contains-cons (over s) [] (over s)).1 (inr refl))
       (marks_from g least most (over s) s_is (
         source.0,
         source.1,
@@ -161,7 +161,7 @@ module _ (g : Setting) (other : ℕ) (least : List (List ℕ)) where
         let found = found_from_any (Before most) (over s ∷ [])
         (subst (λ (sources : List Mark). list_any (Before most) sources ≡ true)
         (cond-true (has s other) (over s ∷ []) [] there) comes) in
-        elim ((Contains-front (over s) [] found.0).0 found.1) [
+        elim ((Contains-cons (over s) [] found.0).0 found.1) [
           | inl none ↦ absurd (omega (arith, none.1))
           | inr same ↦
               let mark = marks-true g least most (over s) (sym (ap (Before most) same) ∙ found.2) in
@@ -193,7 +193,7 @@ module _ (g : Setting) (other : ℕ) (least : List (List ℕ)) where
   under_there (Some many) (Some new) s sets is s_is said =
       let source = is.comes said.0 said.1 in
       any_from_found (Before (Some many)) (other_sources g other (under s)) (under (without other s))
-      ((Contains-front (under (without other s)) (lost_sources g other) (under (without other s))).1 (inr refl))
+      ((Contains-cons (under (without other s)) (lost_sources g other) (under (without other s))).1 (inr refl))
       (marks_from g least (Some many) (under (without other s)) (set-without g other s s_is) (
         source.0,
         source.1,

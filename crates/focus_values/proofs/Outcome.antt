@@ -6,7 +6,7 @@ use Rattle.std.specs.Option.{option_map}
 use Rattle.focus_spec.proofs.Renamed.{after-own}
 use Rattle.lattice_fix.specs.Along.{along}
 use Rattle.set_list.specs.SetList.{IsSubset}
-use Rattle.set_list.specs.Rising.{Contains-front}
+use Rattle.set_list.specs.Rising.{Contains-cons}
 use Rattle.set_list.specs.RisingSets.{subset-short}
 use Rattle.plain_family.specs.Family.{IsWith}
 use Rattle.plain_family.proofs.Smaller.{IsWith-unique}
@@ -113,7 +113,7 @@ younger-local g within (n ∷ earlier) = after-local g (fetch_at g.fetches n) (y
 
 -- a set in a family of one
 pub only : (set : List ℕ) → Contains (set ∷ []) set
-only set = (Contains-front set [] set).1 (inr refl)
+only set = (Contains-cons set [] set).1 (inr refl)
 
 -- a set with a number more, of a family of one
 with-one : (other : ℕ) (set t s : List ℕ) → IsStrictlyIncreasing set → Contains (set ∷ []) t → IsWith other t s

@@ -2,7 +2,7 @@
 use Rattle.std.proofs.Common.{◌≡◌, ℕ, ◌+◌, ◌<◌, ◌≤◌, true, ◌&&◌, List, [], ◌∷◌, length, eqb, ltb, leb, Contains, inl, inr, refl, sym, subst, ap, ◌∙◌, arith}
 use Rattle.std.proofs.lemmas.Bool.{and_parts, and_from, cases_eq, cond-true, cond-false, eq-eqb, ne_eqb, ltb-true, leb-true, lt-ltb, le-leb}
 use Rattle.std.specs.List.Sorted.{IsStrictlyIncreasing}
-use Rattle.set_list.specs.Rising.{Contains-front}
+use Rattle.set_list.specs.Rising.{Contains-cons}
 use Rattle.plain_family.specs.Family.{IsWith}
 use Rattle.plain_family.proofs.Smaller.{IsWith-unique}
 use Rattle.focus_spec.specs.Younger.{with_number}
@@ -43,12 +43,12 @@ without-other x y ys other = cond-false (eqb y x) (without x ys) (y ∷ without 
 pub Contains-without : (x : ℕ) (s : List ℕ) (z : ℕ) → Contains (without x s) z → Contains s z
 Contains-without x [] z there = there
 Contains-without x (y ∷ ys) z there = elim (cases_eq y x) [
-  | inl same ↦ (Contains-front y ys z).1 (inl
+  | inl same ↦ (Contains-cons y ys z).1 (inl
       (Contains-without x ys z (subst (λ (t : List ℕ). Contains t z) (without-same x y ys same) there)))
-  | inr other ↦ elim ((Contains-front y (without x ys) z).0
+  | inr other ↦ elim ((Contains-cons y (without x ys) z).0
       (subst (λ (t : List ℕ). Contains t z) (without-other x y ys other) there)) [
-        | inl rest ↦ (Contains-front y ys z).1 (inl (Contains-without x ys z rest))
-        | inr first ↦ (Contains-front y ys z).1 (inr first)
+        | inl rest ↦ (Contains-cons y ys z).1 (inl (Contains-without x ys z rest))
+        | inr first ↦ (Contains-cons y ys z).1 (inr first)
       ]
 ]
 
@@ -56,15 +56,15 @@ Contains-without x (y ∷ ys) z there = elim (cases_eq y x) [
 pub Contains-without_from : (x : ℕ) (s : List ℕ) (z : ℕ) → Contains s z → (z ≡ x → ⊥) → Contains (without x s) z
 Contains-without_from x [] z there other = there
 Contains-without_from x (y ∷ ys) z there apart = elim (cases_eq y x) [
-  | inl same ↦ elim ((Contains-front y ys z).0 there) [
+  | inl same ↦ elim ((Contains-cons y ys z).0 there) [
     | inl rest ↦ subst (λ (t : List ℕ). Contains t z) (sym (without-same x y ys same))
         (Contains-without_from x ys z rest apart)
     | inr first ↦ absurd (apart (first ∙ same))
   ]
   | inr other ↦ subst (λ (t : List ℕ). Contains t z) (sym (without-other x y ys other))
-      (elim ((Contains-front y ys z).0 there) [
-        | inl rest ↦ (Contains-front y (without x ys) z).1 (inl (Contains-without_from x ys z rest apart))
-        | inr first ↦ (Contains-front y (without x ys) z).1 (inr first)
+      (elim ((Contains-cons y ys z).0 there) [
+        | inl rest ↦ (Contains-cons y (without x ys) z).1 (inl (Contains-without_from x ys z rest apart))
+        | inr first ↦ (Contains-cons y (without x ys) z).1 (inr first)
       ])
 ]
 
@@ -73,7 +73,7 @@ pub without-lacks : (x : ℕ) (s : List ℕ) (z : ℕ) → Contains (without x s
 without-lacks x [] z there same = omega (arith, there.1)
 without-lacks x (y ∷ ys) z there is = elim (cases_eq y x) [
   | inl same ↦ without-lacks x ys z (subst (λ (t : List ℕ). Contains t z) (without-same x y ys same) there) is
-  | inr other ↦ elim ((Contains-front y (without x ys) z).0
+  | inr other ↦ elim ((Contains-cons y (without x ys) z).0
       (subst (λ (t : List ℕ). Contains t z) (without-other x y ys other) there)) [
         | inl rest ↦ without-lacks x ys z rest is
         | inr first ↦ other (sym first ∙ is)

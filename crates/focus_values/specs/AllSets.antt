@@ -23,9 +23,9 @@ sets_complete (suc n) low high (x ∷ xs) span up =
     let high_parts = and_parts (ltb x high) (rises (x + 1) high xs) low_parts.1 in
     elim (cases_eq x low) [
       | inl first ↦
-          let behind : rises (low + 1) high xs ≡ true = subst (λ (k : ℕ). rises (k + 1) high xs ≡ true) first
+          let beyond : rises (low + 1) high xs ≡ true = subst (λ (k : ℕ). rises (k + 1) high xs ≡ true) first
           high_parts.1 in
-          let there = has-map (λ s. low ∷ s) rest xs (sets_complete n (low + 1) high xs (omega arith) behind) in
+          let there = has-map (λ s. low ∷ s) rest xs (sets_complete n (low + 1) high xs (omega arith) beyond) in
           Contains-append_right rest (map (λ s. low ∷ s) rest) (x ∷ xs)
           (subst (λ (k : ℕ). Contains (map (λ s. low ∷ s) rest) (k ∷ xs)) (sym first) there)
       | inr later ↦

@@ -4,7 +4,7 @@ use Rattle.std.proofs.lemmas.Bool.{and_parts}
 use Rattle.std.proofs.lemmas.List.Elements.{Contains-append_left, Contains-append_right}
 use Rattle.std.specs.List.{Contains}
 use Rattle.list_lemmas.proofs.Members.{has-map}
-use Rattle.set_list.specs.Rising.{Contains-front}
+use Rattle.set_list.specs.Rising.{Contains-cons}
 use Rattle.lattice_fix.specs.Framework.{IsMonotone}
 use Rattle.focus_values.specs.Power.{HasAll}
 use Rattle.focus_values.specs.PowerLaws.{power_monotone}
@@ -21,17 +21,17 @@ listed g set small = sets_complete g.count 0 g.count set (omega arith)
 pub all_listed : (g : Setting) → HasAll (marking g)
 all_listed g (over set) is =
     let sets = all_sets g in
-    (Contains-front lost (map over sets ++ map under sets) (over set)).1
+    (Contains-cons lost (map over sets ++ map under sets) (over set)).1
     (inl (Contains-append_left (map over sets) (map under sets) (over set)
     (has-map over sets set (listed g set is))))
 all_listed g (under set) is =
     let sets = all_sets g in
-    (Contains-front lost (map over sets ++ map under sets) (under set)).1
+    (Contains-cons lost (map over sets ++ map under sets) (under set)).1
     (inl (Contains-append_right (map over sets) (map under sets) (under set)
     (has-map under sets set (listed g set is))))
 all_listed g lost is =
     let sets = all_sets g in
-    (Contains-front lost (map over sets ++ map under sets) lost).1 (inr refl)
+    (Contains-cons lost (map over sets ++ map under sets) lost).1 (inr refl)
 
 -- the laws hold
 pub framework_monotone : (g : Setting) → IsMonotone (framework_of g)

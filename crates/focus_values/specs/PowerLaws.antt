@@ -3,7 +3,7 @@ use Rattle.std.proofs.Common.{◌≡◌, ◌≢◌, ℕ, ◌+◌, ◌≤◌, Boo
 use mathlib.Core.Path.{fun_ext}
 use Rattle.std.proofs.lemmas.Bool.{and_parts, and_from, or_cases, or_left, or_right, cases_Bool, cases_eq, both_ways, cond_both}
 use Rattle.std.specs.List.{Contains, list_any}
-use Rattle.set_list.specs.Rising.{Contains-front}
+use Rattle.set_list.specs.Rising.{Contains-cons}
 use Rattle.lattice_fix.specs.Framework.{IsMonotone, IsChain}
 use Rattle.focus_values.specs.Tests.{same_tests, found_from_any, any_from_found}
 use Rattle.focus_values.specs.Power.{Marking, power, moved, HasAll}
@@ -55,7 +55,7 @@ count-same {M} x y (first ∷ marks) below few mark there has =
       | inl holds ↦
           let less : count_of y marks ≤ count_of x marks = omega
           (arith, few, count-in x first marks holds, count-in y first marks (below first holds)) in
-          elim ((Contains-front first marks mark).0 there) [
+          elim ((Contains-cons first marks mark).0 there) [
             | inl later ↦ count-same x y marks below less mark later has
             | inr same ↦ ap x same ∙ holds
           ]
@@ -64,7 +64,7 @@ count-same {M} x y (first ∷ marks) below few mark there has =
         | inr both ↦
             let less : count_of y marks ≤ count_of x marks = omega
             (arith, few, count-out x first marks lacks, count-out y first marks both) in
-            elim ((Contains-front first marks mark).0 there) [
+            elim ((Contains-cons first marks mark).0 there) [
               | inl later ↦ count-same x y marks below less mark later has
               | inr same ↦ absurd (both_ways (y first) both (sym (ap y same) ∙ has))
             ]

@@ -58,7 +58,7 @@ impl<'a, 'g> Lists<'a, 'g> {
         }
     }
 
-    // Behind a fetch of the block its younger set is empty.
+    // After a fetch of the block its younger set is empty.
     fn fresh(&self) -> Result<YoungerSets, AllocError>
         ensures { IfOk result AreFresh }
     {

@@ -57,9 +57,9 @@ edges_are count (Some first) (Some second) fit = record {
   ordered = λ none. absurd (cc none);
   inside = λ configurations long.
       let below = below_test first count (and_parts _ _ fit).0 in
-      let behind = below_test second count (and_parts _ _ (and_parts (nat_lt first count) _ fit).1).0 in
+      let later = below_test second count (and_parts _ _ (and_parts (nat_lt first count) _ fit).1).0 in
       let one = numbered_is configurations first (omega (arith, long, below)) in
-      let two = numbered_is configurations second (omega (arith, long, behind)) in
+      let two = numbered_is configurations second (omega (arith, long, later)) in
       ap (λ x. x ∷ slice_get configurations second ∷ []) one
       ∙ ap (λ y. Some (numbered configurations first) ∷ y ∷ []) two;
 }

@@ -2,7 +2,7 @@ pub mod Sent
 pub mod Within
 pub mod GraphLines
 pub mod GraphText
-pub mod Told
+pub mod SendsFor
 pub mod Complete
 pub mod Reported
 pub mod OneAnswer

@@ -23,7 +23,7 @@ use Rattle.report_lines.specs.Findings.{IsWithin, AreFindings}
 use Rattle.report_lines.proofs.Made.{report}
 use Rattle.icache_top.specs.Lines.{SendsAll}
 use Rattle.icache_top.specs.Answer.{IsAcceptedWith, IsTextFrom, IsTooMuchFor, addresses_of, settled_as}
-use Rattle.icache_top.proofs.Told.{IsManyFault}
+use Rattle.icache_top.proofs.SendsFor.{IsManyFault}
 
 -- the nodes fetch the addresses of their configurations
 zipped_addresses : (step : Step) (all configurations : List Configuration) (nodes : List Node)

@@ -17,41 +17,41 @@ use Rattle.report_lines.proofs.Made.{rest}
 use Rattle.report_lines.proofs.Valid.{right_valid}
 use Rattle.icache_top.specs.Lines.{AreFound, StandsAt, SendsAll, SendsNext, SendsPart}
 
-line_behind : (front : List Line) (line : Line) → text_of front ++ line_text line ≡ text_of (front ++ line ∷ [])
-line_behind front line =
-    ap (λ last. text_of front ++ last) (sym (append-nil (line_text line))) ∙ sym (text_of-append front (line ∷ []))
+line_after : (head : List Line) (line : Line) → text_of head ++ line_text line ≡ text_of (head ++ line ∷ [])
+line_after head line =
+    ap (λ last. text_of head ++ last) (sym (append-nil (line_text line))) ∙ sym (text_of-append head (line ∷ []))
 
 module _ (At : ℕ → Option (Line × Option ℕ) → Type 0) where
   -- one line more
-  before_more : (from : ℕ) (front : List Line) (line : Line) (next : Option ℕ) → AreAllBefore At (Some from) front
-      → At from (Some (line, next)) → AreAllBefore At next (front ++ line ∷ [])
-  before_more from front line next before at = λ rest all.
-      subst (AreAllFrom At (Some 0)) (sym (append_assoc front (line ∷ []) rest)) (before (line ∷ rest) (next, at, all))
+  before_more : (from : ℕ) (head : List Line) (line : Line) (next : Option ℕ) → AreAllBefore At (Some from) head
+      → At from (Some (line, next)) → AreAllBefore At next (head ++ line ∷ [])
+  before_more from head line next before at = λ rest all.
+      subst (AreAllFrom At (Some 0)) (sym (append_assoc head (line ∷ []) rest)) (before (line ∷ rest) (next, at, all))
 
   -- no line is left
-  before_all : (from : ℕ) (front : List Line) (next : Option ℕ) → AreAllBefore At (Some from) front → At from None
+  before_all : (from : ℕ) (head : List Line) (next : Option ℕ) → AreAllBefore At (Some from) head → At from None
       → next ≡ None
-      → AreAllBefore At next front
-  before_all from front next before none is = λ rest all.
+      → AreAllBefore At next head
+  before_all from head next before none is = λ rest all.
       let empty : rest ≡ [] = subst (λ (p : Option ℕ). AreAllFrom At p rest) is all in
-      subst (λ (lines : List Line). AreAllFrom At (Some 0) (front ++ lines)) (sym empty) (before [] none)
+      subst (λ (lines : List Line). AreAllFrom At (Some 0) (head ++ lines)) (sym empty) (before [] none)
 
   -- all lines stand before the end
-  pub whole : (front : List Line) → AreAllBefore At None front → AreAllFrom At (Some 0) front
-  whole front before = subst (AreAllFrom At (Some 0)) (append-nil front) (before [] refl)
+  pub whole : (head : List Line) → AreAllBefore At None head → AreAllFrom At (Some 0) head
+  whole head before = subst (AreAllFrom At (Some 0)) (append-nil head) (before [] refl)
 
   -- the line at a cursor went to the buffer, or none was left
   pub sent_next : (a b c : Option (List ℕ)) (buffer left : List ℕ) (from : ℕ) (next : Option ℕ)
-      → (front : List Line) × AreAllBefore At (Some from) front × Pending a b buffer (text_of front)
+      → (head : List Line) × AreAllBefore At (Some from) head × Pending a b buffer (text_of head)
       → SendsNext At from (Pending b c left) buffer next
-      → (front : List Line) × AreAllBefore At next front × Pending a c left (text_of front)
-  sent_next a b c buffer left from next (front, before, pending) (inl (none, is, same)) =
-      (front, before_all from front next before none is, Pending-trans a b c buffer left (text_of front) pending same)
-  sent_next a b c buffer left from next (front, before, pending) (inr (line, at, sent)) = (
-    front ++ line ∷ [],
-    before_more from front line next before at,
-    subst (λ (text : List ℕ). Pending a c left text) (line_behind front line)
-        (Pending-line a b c buffer left (text_of front) (line_text line) pending sent),
+      → (head : List Line) × AreAllBefore At next head × Pending a c left (text_of head)
+  sent_next a b c buffer left from next (head, before, pending) (inl (none, is, same)) =
+      (head, before_all from head next before none is, Pending-trans a b c buffer left (text_of head) pending same)
+  sent_next a b c buffer left from next (head, before, pending) (inr (line, at, sent)) = (
+    head ++ line ∷ [],
+    before_more from head line next before at,
+    subst (λ (text : List ℕ). Pending a c left text) (line_after head line)
+        (Pending-line a b c buffer left (text_of head) (line_text line) pending sent),
   )
 
 module _ (contexts : Bool) (image : Image) (expanded : Expansion) (verdicts : List Verdict)
@@ -66,26 +66,26 @@ module _ (contexts : Bool) (image : Image) (expanded : Expansion) (verdicts : Li
       rest image entry g expanded.configurations expanded.nodes verdicts findings contexts cursor
 
   -- a prefix of what stands before a cursor was sent
-  part_before : (a c : Option (List ℕ)) (front : List Line) (cursor : Option ℕ) → AreAllBefore At cursor front
-      → SendsPrefix a c (text_of front)
+  part_before : (a c : Option (List ℕ)) (head : List Line) (cursor : Option ℕ) → AreAllBefore At cursor head
+      → SendsPrefix a c (text_of head)
       → SendsAll contexts image expanded verdicts (SendsPrefix a c)
-  part_before a c front cursor before part =
+  part_before a c head cursor before part =
       let (lines, all) = there cursor in (
-        front ++ lines,
+        head ++ lines,
         before lines all,
-        subst (SendsPrefix a c) (sym (text_of-append front lines))
-            (SendsPrefix-more a c (text_of front) (text_of lines) part),
+        subst (SendsPrefix a c) (sym (text_of-append head lines))
+            (SendsPrefix-more a c (text_of head) (text_of lines) part),
       )
 
   -- a prefix of the lines so far was sent
   pub part_sent : (a b c : Option (List ℕ)) (buffer : List ℕ) (from : ℕ)
-      → (front : List Line) × AreAllBefore At (Some from) front × Pending a b buffer (text_of front)
+      → (head : List Line) × AreAllBefore At (Some from) head × Pending a b buffer (text_of head)
       → SendsPart At from (SendsPrefix b c) buffer → SendsAll contexts image expanded verdicts (SendsPrefix a c)
-  part_sent a b c buffer from (front, before, pending) (inl part) =
-      part_before a c front (Some from) before (SendsPrefix-pending a b c buffer (text_of front) pending part)
-  part_sent a b c buffer from (front, before, pending) (inr (line, next, at, part)) =
-      part_before a c (front ++ line ∷ []) next (before_more At from front line next before at)
-      (subst (SendsPrefix a c) (line_behind front line) (SendsPrefix-line a b c buffer (text_of front) (line_text line)
+  part_sent a b c buffer from (head, before, pending) (inl part) =
+      part_before a c head (Some from) before (SendsPrefix-pending a b c buffer (text_of head) pending part)
+  part_sent a b c buffer from (head, before, pending) (inr (line, next, at, part)) =
+      part_before a c (head ++ line ∷ []) next (before_more At from head line next before at)
+      (subst (SendsPrefix a c) (line_after head line) (SendsPrefix-line a b c buffer (text_of head) (line_text line)
       pending part))
 
   -- nothing was sent

@@ -86,23 +86,23 @@ pub record HasFlowFault (settings : Settings) (file : List ℕ) (fault : FlowFau
 
 -- what a status says of a program that is refused with a fault, that has too many blocks in a set, or of which a text is
 -- wanted, and of what the sink got
-abbrev pub ToldOf : (FlowFault → Type 0) → (ℕ → ℕ → Type 0) → (List ℕ → Type 0) → Status → Option (List ℕ)
+abbrev pub SendsFor : (FlowFault → Type 0) → (ℕ → ℕ → Type 0) → (List ℕ → Type 0) → Status → Option (List ℕ)
     → Option (List ℕ) → Type 0
-ToldOf Refused HasMany IsWanted Done old new = (text : List ℕ) × IsWanted text × Appends old new text
-ToldOf Refused HasMany IsWanted WriteFault old new = (text : List ℕ) × IsWanted text × SendsPrefix old new text
-ToldOf Refused HasMany IsWanted OutOfMemory old new =
+SendsFor Refused HasMany IsWanted Done old new = (text : List ℕ) × IsWanted text × Appends old new text
+SendsFor Refused HasMany IsWanted WriteFault old new = (text : List ℕ) × IsWanted text × SendsPrefix old new text
+SendsFor Refused HasMany IsWanted OutOfMemory old new =
     Keeps old new ⊎ ((text : List ℕ) × IsWanted text × SendsPrefix old new text)
-ToldOf Refused HasMany IsWanted (Flow fault) old new = Refused fault × Keeps old new
-ToldOf Refused HasMany IsWanted (TooManyBlocks set count) old new = HasMany set count × Keeps old new
-ToldOf Refused HasMany IsWanted Usage old new = ⊥
-ToldOf Refused HasMany IsWanted ReadFault old new = ⊥
-ToldOf Refused HasMany IsWanted FileTooBig old new = ⊥
-ToldOf Refused HasMany IsWanted (Elf fault) old new = ⊥
+SendsFor Refused HasMany IsWanted (Flow fault) old new = Refused fault × Keeps old new
+SendsFor Refused HasMany IsWanted (TooManyBlocks set count) old new = HasMany set count × Keeps old new
+SendsFor Refused HasMany IsWanted Usage old new = ⊥
+SendsFor Refused HasMany IsWanted ReadFault old new = ⊥
+SendsFor Refused HasMany IsWanted FileTooBig old new = ⊥
+SendsFor Refused HasMany IsWanted (Elf fault) old new = ⊥
 
 -- what a status says of the program that begins at the entry, and of what the sink got
 abbrev pub SaysOfProgram : Ask → Image → ℕ → Status → Option (List ℕ) → Option (List ℕ) → Type 0
 SaysOfProgram ask image entry =
-    ToldOf (IsRefused (successors image entry) image entry)
+    SendsFor (IsRefused (successors image entry) image entry)
     (λ set count. IsAcceptedWith image entry (λ layers. IsTooMuchFor ask layers set count))
     (λ text. IsAcceptedWith image entry (λ layers. IsTextFrom ask image entry layers text))
 
@@ -110,7 +110,7 @@ SaysOfProgram ask image entry =
 abbrev pub Tells : Settings → List ℕ → Status → Option (List ℕ) → Option (List ℕ) → Type 0
 Tells settings file (Elf fault) old new = HasElfFault file fault × Keeps old new
 Tells settings file status old new =
-    ToldOf (HasFlowFault settings file) (HasManyBlocks settings file) (IsAnswerOf settings file) status old new
+    SendsFor (HasFlowFault settings file) (HasManyBlocks settings file) (IsAnswerOf settings file) status old new
 
 -- the arguments give settings, the whole file was read, and the status says this of it
 abbrev pub Read : List (List ℕ) → Status → Option (List ℕ) → Option (List ℕ) → Option (List ℕ) → Option (List ℕ)

@@ -41,7 +41,8 @@ SendsReport contexts found = SendsAll contexts found.image.now found.expanded.no
 -- since the sink was as it was then, the lines before a cursor were sent, or stand in the buffer
 abbrev pub SentBefore : {O : Type 0} → Ghosts O → Bool → Findings → O → O → List ℕ → Option ℕ → Type 0
 SentBefore g contexts found begun now buffer cursor =
-    (lines : List Line) × AreAllBefore (StandsIn contexts found) cursor lines × IsPending g begun now buffer (text_of lines)
+    (lines : List Line) × AreAllBefore (StandsIn contexts found) cursor lines
+    × IsPending g begun now buffer (text_of lines)
 
 -- the line at a cursor and the cursor after it, and what was sent is the buffer and its text; or no line is left
 abbrev pub SendsNext : (ℕ → Option (Line × Option ℕ) → Type 0) → ℕ → (List ℕ → Type 0) → List ℕ → Option ℕ → Type 0

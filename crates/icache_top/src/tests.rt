@@ -100,12 +100,12 @@ pub(crate) fn check<R: Threads + Sync + Abort>(
     assert_eq!(rt; outcome.status, status, "{line}");
     assert!(rt; outcome.table.as_slice().is_empty());
     assert!(rt; outcome.jobs.as_slice().is_empty());
-    let (told, silent) = if status == Status::Done {
+    let (reported, silent) = if status == Status::Done {
         (out, err)
     } else {
         (err, out)
     };
-    assert_eq!(rt; told.sent(), text.as_bytes());
+    assert_eq!(rt; reported.sent(), text.as_bytes());
     assert!(rt; silent.sent().is_empty());
     Ok(())
 }

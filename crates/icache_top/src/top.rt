@@ -119,7 +119,7 @@ fn answer_file<O: Sink>(
 ) -> Result<(), Status>
     requires { length file.items ≤ file_limit }
     ensures not_done { IfErr result (λ status. status ≢ Status.Done) }
-    ensures told { Tells settings.now file.items (status_of result) (O.sent out.old) (O.sent out.new) }
+    ensures reported { Tells settings.now file.items (status_of result) (O.sent out.old) (O.sent out.new) }
     ensures writes { CountsOut (status_of result) (O.faults out.old) (O.faults out.new) }
     ensures refusals { CountsOutRefusals (status_of result) (O.refusals out.old) (O.refusals out.new) }
     ensures writing { WritesFor O.writes (status_of result) out.old out.new }
@@ -143,7 +143,7 @@ fn classify<O: Sink>(
 ) -> Result<(), Status>
     requires { IsWithin image.now }
     ensures not_done { IfErr result (λ status. status ≢ Status.Done) }
-    ensures told { SaysOfProgram (Ask.Report ask.now) image.now entry (status_of result) (O.sent out.old) (O.sent out.new) }
+    ensures reported { SaysOfProgram (Ask.Report ask.now) image.now entry (status_of result) (O.sent out.old) (O.sent out.new) }
     ensures writes { CountsOut (status_of result) (O.faults out.old) (O.faults out.new) }
     ensures refusals { CountsOutRefusals (status_of result) (O.refusals out.old) (O.refusals out.new) }
     ensures writing { WritesFor O.writes (status_of result) out.old out.new }
@@ -163,7 +163,7 @@ fn classify<O: Sink>(
 /// Sends the text of a program's graph.
 fn graph<O: Sink>(alloc: Global, out: &mut O, image: &Image, entry: u32) -> Result<(), Status>
     ensures not_done { IfErr result (λ status. status ≢ Status.Done) }
-    ensures told { SaysOfProgram Ask.Graph image.now entry (status_of result) (O.sent out.old) (O.sent out.new) }
+    ensures reported { SaysOfProgram Ask.Graph image.now entry (status_of result) (O.sent out.old) (O.sent out.new) }
     ensures writes { CountsOut (status_of result) (O.faults out.old) (O.faults out.new) }
     ensures refusals { CountsOutRefusals (status_of result) (O.refusals out.old) (O.refusals out.new) }
     ensures writing { WritesFor O.writes (status_of result) out.old out.new }

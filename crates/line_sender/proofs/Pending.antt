@@ -20,7 +20,7 @@ Pending-start a buffer = ([], Appends-nil a, refl)
 pub Pending-more : (a b : Option (List ℕ)) (buffer text more : List ℕ)
     → Pending a b buffer text → Pending a b (buffer ++ more) (text ++ more)
 Pending-more a b buffer text more before =
-    (before.0, before.1, sym (append_assoc before.0 buffer more) ∙ ap (λ front. front ++ more) before.2)
+    (before.0, before.1, sym (append_assoc before.0 buffer more) ∙ ap (λ head. head ++ more) before.2)
 
 -- some of the buffer went over
 pub Pending-trans : (a b c : Option (List ℕ)) (buffer left text : List ℕ)
@@ -59,9 +59,9 @@ SendsPrefix-more a b text more part =
     (part.0, grind (arith, common_steps, part.1), subst (Appends a b) (sym same) part.2)
 
 -- a text, and then a prefix of what follows it
-pub SendsPrefix-behind : (a b c : Option (List ℕ)) (text more : List ℕ)
+pub SendsPrefix-after : (a b c : Option (List ℕ)) (text more : List ℕ)
     → Appends a b text → SendsPrefix b c more → SendsPrefix a c (text ++ more)
-SendsPrefix-behind a b c text more before part = (
+SendsPrefix-after a b c text more before part = (
   length text + part.0,
   grind (arith, common_steps, part.1),
   rw (take-append-add text more part.0) (Appends-trans a b c text (take part.0 more) before part.2),
@@ -77,7 +77,7 @@ SendsPrefix-of_pending a b buffer text before =
 pub SendsPrefix-pending : (a b c : Option (List ℕ)) (buffer text : List ℕ)
     → Pending a b buffer text → SendsPrefix b c buffer → SendsPrefix a c text
 SendsPrefix-pending a b c buffer text before part =
-    subst (SendsPrefix a c) before.2 (SendsPrefix-behind a b c before.0 buffer before.1 part)
+    subst (SendsPrefix a c) before.2 (SendsPrefix-after a b c before.0 buffer before.1 part)
 
 -- a line came after the buffer, and then a prefix of both went over
 pub SendsPrefix-line : (a b c : Option (List ℕ)) (buffer text line : List ℕ)

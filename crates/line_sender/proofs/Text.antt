@@ -8,8 +8,8 @@ use Rattle.report_spec.specs.declared.line.Line.{Line}
 use Rattle.report_spec.specs.Text.{line_text, text_of}
 use Rattle.line_sender.proofs.Pending.{SendsPrefix-more}
 
-pub text_of-append : (front rest : List Line) → text_of (front ++ rest) ≡ text_of front ++ text_of rest
-text_of-append front rest = flat_map-append line_text front rest
+pub text_of-append : (head rest : List Line) → text_of (head ++ rest) ≡ text_of head ++ text_of rest
+text_of-append head rest = flat_map-append line_text head rest
 
 -- one line more
 pub text_of-take_more : (lines : List Line) (i : ℕ) (line : Line) → i < length lines → line ≡ get_or lines i line

@@ -21,26 +21,26 @@ abbrev listed : List Line → List ℕ
 listed lines = flat_map addresses_of lines
 
 -- what is after fewer words begins with the word after them, where more words are the same list
-behind_fewer : (first n more : ℕ) (xs ys : List ℕ) → words_from first n ++ xs ≡ words_from first (n + suc more) ++ ys
+after_fewer : (first n more : ℕ) (xs ys : List ℕ) → words_from first n ++ xs ≡ words_from first (n + suc more) ++ ys
     → xs ≡ words_from (first + 4 * n) (suc more) ++ ys
-behind_fewer first zero more xs ys same =
+after_fewer first zero more xs ys same =
     let none : zero + suc more ≡ suc more = omega arith in
     let here : first + 4 * zero ≡ first = omega arith in
     same ∙ ap (λ k. words_from first k ++ ys) none ∙ ap (λ p. words_from p (suc more) ++ ys) (sym here)
-behind_fewer first (suc n) more xs ys same =
+after_fewer first (suc n) more xs ys same =
     let next : suc n + suc more ≡ suc (n + suc more) = omega arith in
     let there : first + 4 + 4 * n ≡ first + 4 * suc n = omega arith in
     let opened : words_from first (suc n) ++ xs ≡ words_from first (suc (n + suc more)) ++ ys =
     same ∙ ap (λ k. words_from first k ++ ys) next in
     let rest : words_from (first + 4) n ++ xs ≡ words_from (first + 4) (n + suc more) ++ ys = cc opened in
-    behind_fewer (first + 4) n more xs ys rest ∙ ap (λ p. words_from p (suc more) ++ ys) there
+    after_fewer (first + 4) n more xs ys rest ∙ ap (λ p. words_from p (suc more) ++ ys) there
 
 -- what is after as many words is the same
-behind_same : (first n : ℕ) (xs ys : List ℕ) → words_from first n ++ xs ≡ words_from first n ++ ys → xs ≡ ys
-behind_same first zero xs ys same = same
-behind_same first (suc n) xs ys same =
+after_same : (first n : ℕ) (xs ys : List ℕ) → words_from first n ++ xs ≡ words_from first n ++ ys → xs ≡ ys
+after_same first zero xs ys same = same
+after_same first (suc n) xs ys same =
     let rest : words_from (first + 4) n ++ xs ≡ words_from (first + 4) n ++ ys =
-    cc same in behind_same (first + 4) n xs ys rest
+    cc same in after_same (first + 4) n xs ys rest
 
 -- the word with index `k` is among the first `n`
 word_among : (first n k : ℕ) → k < n → Contains (words_from first n) (first + 4 * k)
@@ -63,12 +63,12 @@ end_of first last ends =
     let (i, below, at) = word_place first (words_in first last) last ends in omega (arith, below, at)
 
 -- lines after a range are as they were without it
-greatest_behind : (first last : ℕ) (lines : List Line) → AreGreatest (Unreachable first last ∷ lines)
+greatest_after : (first last : ℕ) (lines : List Line) → AreGreatest (Unreachable first last ∷ lines)
     → AreGreatest lines
-greatest_behind first last [] greatest = tt
-greatest_behind first last (At at verdict ∷ lines) greatest = greatest
-greatest_behind first last (Context node at depth back verdict ∷ lines) greatest = greatest
-greatest_behind first last (Unreachable next end ∷ lines) greatest = greatest.1
+greatest_after first last [] greatest = tt
+greatest_after first last (At at verdict ∷ lines) greatest = greatest
+greatest_after first last (Context node at depth back verdict ∷ lines) greatest = greatest
+greatest_after first last (Unreachable next end ∷ lines) greatest = greatest.1
 
 module _ (image : Image) (entry : ℕ) (g : Geometry) where
   -- each line is right
@@ -93,20 +93,20 @@ module _ (image : Image) (entry : ℕ) (g : Geometry) where
       absurd (cc opened)
 
   -- lines after a range don't begin with the address after it, where no path reaches that
-  nothing_behind : (first last p : ℕ) (lines : List Line) (others : List ℕ)
+  nothing_after : (first last p : ℕ) (lines : List Line) (others : List ℕ)
       → AreGreatest (Unreachable first last ∷ lines) → AreRight lines
       → IsUnreached image entry p → p ≡ last + 4 → listed lines ≡ p ∷ others → ⊥
-  nothing_behind first last p [] others greatest right unreached behind begins = absurd (cc begins)
-  nothing_behind first last p (At at verdict ∷ lines) others greatest right unreached behind begins =
+  nothing_after first last p [] others greatest right unreached beyond begins = absurd (cc begins)
+  nothing_after first last p (At at verdict ∷ lines) others greatest right unreached beyond begins =
       let same : p ≡ at = cc begins in not_reached p at verdict unreached same right.0
-  nothing_behind first last p (Context node at depth back verdict ∷ lines) others greatest right unreached behind
+  nothing_after first last p (Context node at depth back verdict ∷ lines) others greatest right unreached beyond
       begins = right.0
-  nothing_behind first last p (Unreachable next end ∷ lines) others greatest right unreached behind begins =
+  nothing_after first last p (Unreachable next end ∷ lines) others greatest right unreached beyond begins =
       let one : words_in next end ≡ suc ((end - next) / 4) = omega arith in
       let opened : words_from next (suc ((end - next) / 4)) ++ listed lines ≡ p ∷ others =
       ap (λ k. words_from next k ++ listed lines) (sym one) ∙ begins in
       let same : p ≡ next = cc opened in
-      greatest.0 (sym same ∙ behind)
+      greatest.0 (sym same ∙ beyond)
 
   -- a range isn't shorter than another that begins with it, where both lists go on alike
   not_shorter : (first last end : ℕ) (lines others : List Line) → AreGreatest (Unreachable first last ∷ lines)
@@ -121,11 +121,11 @@ module _ (image : Image) (entry : ℕ) (g : Geometry) where
       let whole : words_from first n ++ listed lines ≡ words_from first (n + suc more) ++ listed others =
       same ∙ ap (λ k. words_from first k ++ listed others) count in
       let begins : listed lines ≡ words_from (first + 4 * n) (suc more) ++ listed others =
-      behind_fewer first n more (listed lines) (listed others) whole in
+      after_fewer first n more (listed lines) (listed others) whole in
       let unreached : IsUnreached image entry (first + 4 * n) =
       each-has (IsUnreached image entry) (range_addresses first end) other.1 (first + 4 * n)
       (word_among first (words_in first end) n shorter) in
-      nothing_behind first last (first + 4 * n) lines (words_from (first + 4 * n + 4) more ++ listed others) greatest
+      nothing_after first last (first + 4 * n) lines (words_from (first + 4 * n + 4) more ++ listed others) greatest
       right unreached
       (sym (end_of first last range.0)) begins
 
@@ -188,7 +188,7 @@ module _ (image : Image) (entry : ℕ) (g : Geometry) where
       let whole : words_from first (words_in first last) ++ listed lines ≡ words_from first (words_in first last)
       ++ listed others =
       same ∙ ap (λ end. words_from first (words_in first end) ++ listed others) (sym ends) in
-      (ends, behind_same first (words_in first last) (listed lines) (listed others) whole) in
+      (ends, after_same first (words_in first last) (listed lines) (listed others) whole) in
       subst Same one here right' greatest'
 
   -- right lines with the same addresses, in which no two ranges could be joined, are alike
@@ -224,8 +224,8 @@ module _ (image : Image) (entry : ℕ) (g : Geometry) where
       let one : first ≡ first' = cc opened in
       let (ends, rest) = same_range first first' last last' lines others right right' greatest greatest' one same in
       let later : AreAlike lines others =
-      alike lines others right.1 right'.1 (greatest_behind first last lines greatest)
-      (greatest_behind first' last' others greatest') rest in
+      alike lines others right.1 right'.1 (greatest_after first last lines greatest)
+      (greatest_after first' last' others greatest') rest in
       cc (one, ends, later)
 
   -- two reports by address are alike

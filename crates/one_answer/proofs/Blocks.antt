@@ -30,7 +30,7 @@ module _ (addresses : List ℕ) (g : Geometry) where
   not_before set count other number many many' =
       ⊎_elim
       (λ (before : set < other). absurd (few_many set count (many'.earlier set before) many))
-      (λ (behind : other ≤ set). behind)
+      (λ (later : other ≤ set). later)
       (cases_lt set other)
 
   -- one set is the first one, with one count

@@ -41,7 +41,7 @@ apart-append [] ys first second none = second
 apart-append (x ∷ xs) ys first second none = (
   λ has. elim (Contains-append_cases xs ys x has) [
     | inl within ↦ first.0 within
-    | inr behind ↦ none x (has-first x xs) behind
+    | inr beyond ↦ none x (has-first x xs) beyond
   ],
   apart-append xs ys first.1 second (λ y has. none y (has-later x y xs has)),
 )
@@ -80,9 +80,9 @@ module _ (step : Step) (entry : ℕ) where
       is.no_sooner n (omega (arith, above)) ((are.0.members c).0 here).reached)
 
   -- the first of some layers
-  front : (n : ℕ) (layers rest : List (List Configuration)) → Are n (layers ++ rest) → Are n layers
-  front n [] rest are = tt
-  front n (layer ∷ layers) rest are = (are.0, front (n + 1) layers rest are.1)
+  prefix : (n : ℕ) (layers rest : List (List Configuration)) → Are n (layers ++ rest) → Are n layers
+  prefix n [] rest are = tt
+  prefix n (layer ∷ layers) rest are = (are.0, prefix (n + 1) layers rest are.1)
 
   module _ (configurations : List Configuration) (apart : AreApart configurations) where
     -- numbers of the same configurations are the same
@@ -154,6 +154,6 @@ one_graph_text image entry text other (layers, accepted, (lines, are, is)) (laye
     let step = successors image entry in
     let same : all_of layers' ≡ all_of layers = one_numbering step entry image layers' layers accepted' accepted in
     let apart : AreApart (all_of layers) =
-    layers_apart step entry 0 layers (front step entry 0 layers ([] ∷ []) accepted.are_layers) in
+    layers_apart step entry 0 layers (prefix step entry 0 layers ([] ∷ []) accepted.are_layers) in
     is ∙ one_text step entry (all_of layers) apart 0 (all_of layers) lines lines' are
     (subst (λ cs. AreGraphLines step cs 0 cs lines') same are') ∙ sym is'

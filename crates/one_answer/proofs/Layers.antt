@@ -47,18 +47,18 @@ module _ {C F : Type 0} (step : C → Result (List C) F) (start : C) (order : C 
       let (k, lt, at) = (empty.members b).1 before in omega (arith, lt))
 
   -- and so all after it are
-  pub none_behind : (n : ℕ) (layers : List (List C)) → IsLayer step start order n []
+  pub none_after : (n : ℕ) (layers : List (List C)) → IsLayer step start order n []
       → AreLayersFrom step start order (n + 1) layers
       → AllByRecursion (λ (layer : List C). layer ≡ []) layers
-  none_behind n [] empty are = tt
-  none_behind n (layer ∷ layers) empty are =
+  none_after n [] empty are = tt
+  none_after n (layer ∷ layers) empty are =
       let none = none_next n layer empty are.0 in
-      (none, none_behind (n + 1) layers (subst (IsLayer step start order (n + 1)) none are.0) are.1)
+      (none, none_after (n + 1) layers (subst (IsLayer step start order (n + 1)) none are.0) are.1)
 
   -- those after some layers, where one of them is empty
   pub none_from : (n : ℕ) (earlier rest : List (List C)) → AreLayersFrom step start order n (earlier ++ [] ∷ rest)
       → AllByRecursion (λ (layer : List C). layer ≡ []) rest
-  none_from n [] rest are = none_behind n rest are.0 are.1
+  none_from n [] rest are = none_after n rest are.0 are.1
   none_from n (layer ∷ earlier) rest are = none_from (n + 1) earlier rest are.1
 
   -- of two lists of layers one is as long as the other, or ends within it

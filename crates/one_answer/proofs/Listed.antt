@@ -14,9 +14,9 @@ use Rattle.list_lemmas.proofs.Members.{has-first, has-later, has-cases, empty-no
 module _ {A : Type 0} (order : A → A → Ordering) (total : IsTotalOrder order) where
   -- nothing comes both before and after another
   pub one_way : (x y : A) → order x y ≡ Less → order y x ≡ Less → ⊥
-  one_way x y before behind =
+  one_way x y before beyond =
       let turned : order x y ≡ ordering_reverse (order y x) = total.antisymm x y in
-      let reversed : ordering_reverse (order y x) ≡ ordering_reverse Less = ap ordering_reverse behind in
+      let reversed : ordering_reverse (order y x) ≡ ordering_reverse Less = ap ordering_reverse beyond in
       absurd (cc (before, turned, reversed))
 
   -- the first of one list is the first of the other

@@ -14,7 +14,7 @@ use Rattle.flow_spec.specs.Order.{configuration_cmp}
 use Rattle.flow_spec.specs.Successors.{Successors}
 use Rattle.flow_spec.specs.Acceptance.{Step, IsFaultless, IsAccepted, IsFirstFaulty, PassesLimit, IsRefused}
 use Rattle.flow_spec.proofs.Ordered.{configurations_total}
-use Rattle.call_expand.proofs.Zipped.{all-front, all-back}
+use Rattle.call_expand.proofs.Zipped.{all-prefix, all-back}
 use Rattle.one_answer.proofs.Layers.{EndsWithin, none_from, meet}
 
 -- the configurations of layers that go on after some
@@ -97,11 +97,11 @@ module _ (step : Step) where
         last end
 
     -- layers that go on after an empty one go on with empty ones
-    behind_empty : (earlier others : List (List Configuration)) (end : List Configuration)
+    after_empty : (earlier others : List (List Configuration)) (end : List Configuration)
         → EndsWithin earlier [] others → Are (others ++ end ∷ [])
         → (rest : List (List Configuration)) × (others ≡ earlier ++ [] ∷ rest)
         × AllByRecursion (λ (layer : List Configuration). layer ≡ []) (rest ++ end ∷ [])
-    behind_empty earlier others end (rest, is) are =
+    after_empty earlier others end (rest, is) are =
         let split : others ++ end ∷ [] ≡ earlier ++ [] ∷ (rest ++ end ∷ []) =
         ap (λ l. l ++ end ∷ []) is ∙ append_assoc earlier ([] ∷ rest) (end ∷ []) in (
           rest,
@@ -115,7 +115,7 @@ module _ (step : Step) where
         → Are (others ++ end ∷ [])
         → end ≡ []
     last_empty earlier others end within are =
-        let (rest, is, none) = behind_empty earlier others end within are in
+        let (rest, is, none) = after_empty earlier others end within are in
         (all-back (λ (layer : List Configuration). layer ≡ []) rest (end ∷ []) none).0
 
     -- and they have no more configurations
@@ -123,11 +123,11 @@ module _ (step : Step) where
         → Are (others ++ end ∷ [])
         → all_of others ≡ all_of earlier
     none_more earlier others end within are =
-        let (rest, is, none) = behind_empty earlier others end within are in
+        let (rest, is, none) = after_empty earlier others end within are in
         ap all_of is
         ∙ all_split earlier rest []
         ∙ ap (λ (cs : List Configuration). all_of earlier ++ cs)
-        (all_none rest (all-front (λ (layer : List Configuration). layer ≡ []) rest (end ∷ []) none))
+        (all_none rest (all-prefix (λ (layer : List Configuration). layer ≡ []) rest (end ∷ []) none))
         ∙ append-nil (all_of earlier)
 
     module _ (image : Image) where
@@ -207,11 +207,11 @@ module _ (step : Step) where
                 (all-back (IsFaultless step) (all_of earlier) before first.faultless)
                 (all-back (IsFaultless step) (all_of others) before' first'.faultless) faulty faulty'
             | inr (inl within) ↦
-                absurd (faulty_among (all_of others) c fault (all-front (IsFaultless step) (all_of others) before'
+                absurd (faulty_among (all_of others) c fault (all-prefix (IsFaultless step) (all_of others) before'
                 first'.faultless)
                 (ends_among earlier others (before ++ c ∷ after) c within (in_middle before after c)) faulty)
             | inr (inr within) ↦
-                absurd (faulty_among (all_of earlier) c' other (all-front (IsFaultless step) (all_of earlier) before
+                absurd (faulty_among (all_of earlier) c' other (all-prefix (IsFaultless step) (all_of earlier) before
                 first.faultless)
                 (ends_among others earlier (before' ++ c' ∷ after') c' within (in_middle before' after' c')) faulty')
           ]

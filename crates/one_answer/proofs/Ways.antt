@@ -23,9 +23,9 @@ apart : (a b : ℕ) (xs ys : List ℕ) → a ∷ xs ≡ b ∷ ys → (a ≡ b �
 apart a b xs ys same differ = let heads : a ≡ b = cc same in differ heads
 
 -- what comes after one prefix
-behind : (front xs ys : List ℕ) → front ++ xs ≡ front ++ ys → xs ≡ ys
-behind [] xs ys same = same
-behind (x ∷ front) xs ys same = let rest : front ++ xs ≡ front ++ ys = cc same in behind front xs ys rest
+later : (head xs ys : List ℕ) → head ++ xs ≡ head ++ ys → xs ≡ ys
+later [] xs ys same = same
+later (x ∷ head) xs ys same = let rest : head ++ xs ≡ head ++ ys = cc same in later head xs ys rest
 
 module _ {C F : Type 0} (step : C → Result (List C) F) (start : C) (few : AreFew step) where
   -- from one state, letters that begin alike lead to one state
@@ -79,11 +79,11 @@ module _ {C F : Type 0} (step : C → Result (List C) F) (start : C) (few : AreF
       sym (append_assoc before letter rest) ∙ ap (λ l. l ++ rest) (sym whole) ∙ same ∙ ap (λ l. l ++ rest') whole'
       ∙ append_assoc before' letter' rest' in
       let shorter : length (c ∷ earlier) ≡ length (c' ∷ earlier') = omega (arith, long) in
-      let (front, alike) = one_course (c ∷ earlier) (c' ∷ earlier') before before' (letter ++ rest) (letter' ++ rest')
+      let (head, alike) = one_course (c ∷ earlier) (c' ∷ earlier') before before' (letter ++ rest) (letter' ++ rest')
       path_is.1 other_is.1
       shorter has has' begun in
-      let from : c' ≡ c = cc front in
-      let ends : letter ++ rest ≡ letter' ++ rest' = behind before (letter ++ rest) (letter' ++ rest')
+      let from : c' ≡ c = cc head in
+      let ends : letter ++ rest ≡ letter' ++ rest' = later before (letter ++ rest) (letter' ++ rest')
       (begun ∙ ap (λ l. l ++ (letter' ++ rest')) (sym alike)) in
       let Leads : C → Type 0 = λ c. IsSuccessor step c d' in
       let Letter : C → Type 0 = λ c. IsLetter (step c) d' letter' in
@@ -91,7 +91,7 @@ module _ {C F : Type 0} (step : C → Result (List C) F) (start : C) (few : AreF
       (subst Leads from other_is.0) is
       (subst Letter from is') ends in
       let both : before ++ letter ≡ before' ++ letter' = cc (alike, letters) in
-      (cc (to, front), whole ∙ both ∙ sym whole')
+      (cc (to, head), whole ∙ both ∙ sym whole')
 
   -- a way names one path
   pub one_path : (way : Way) (path other : List C) → IsPath step start path → IsPath step start other

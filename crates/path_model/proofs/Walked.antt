@@ -52,7 +52,7 @@ slice_get-drop (suc n) [] = refl
 slice_get-drop (suc n) (x ∷ xs) = slice_get-drop n xs
 
 -- the first of the later members, which are listed last first
-last_of : (later : List ℕ) → 1 ≤ length later → (front : List ℕ) × (d : ℕ) × (later ≡ front ++ d ∷ [])
+last_of : (later : List ℕ) → 1 ≤ length later → (prefix : List ℕ) × (d : ℕ) × (later ≡ prefix ++ d ∷ [])
 last_of [] some = absurd (omega arith)
 last_of (d ∷ []) some = ([], d, refl)
 last_of (e ∷ d ∷ later) some =
@@ -82,14 +82,14 @@ choice_at choices before letter rest used within same all =
     slice_get-drop used choices ∙ ap (λ xs. slice_get xs 0) left
 
 -- the move from a member of a path leads to the next one
-move_on : (nodes : List Node) (choices front earlier : List ℕ) (last used d : ℕ) → IsGraph nodes
-    → IsPath (graph_step nodes) 0 (front ++ d ∷ last ∷ earlier)
-    → HasChoices (graph_step nodes) (front ++ d ∷ last ∷ earlier) choices
+move_on : (nodes : List Node) (choices prefix earlier : List ℕ) (last used d : ℕ) → IsGraph nodes
+    → IsPath (graph_step nodes) 0 (prefix ++ d ∷ last ∷ earlier)
+    → HasChoices (graph_step nodes) (prefix ++ d ∷ last ∷ earlier) choices
     → HasChoices (graph_step nodes) (last ∷ earlier) (take used choices) → used ≤ length choices
     → (letter : List ℕ) × (next_to (slice_get nodes last) (slice_get choices used) ≡ Some (d, length letter))
-move_on nodes choices front earlier last used d graph path takes so_far within =
-    let leads = (IsPath-suffix (graph_step nodes) 0 d front (last ∷ earlier) path).0 in
-    let has = choices-prefix nodes d front (last ∷ earlier) choices takes in
+move_on nodes choices prefix earlier last used d graph path takes so_far within =
+    let leads = (IsPath-suffix (graph_step nodes) 0 d prefix (last ∷ earlier) path).0 in
+    let has = choices-prefix nodes d prefix (last ∷ earlier) choices takes in
     let same = choices-unique nodes (last ∷ earlier) has.2.0 (take used choices) graph has.2.2 so_far in
     let choice = choice_at choices has.2.0 has.2.1 has.1 used within same (has.3 ∙ ap (λ xs. xs ++ has.1) has.2.4) in (
       has.2.1,
@@ -99,7 +99,7 @@ move_on nodes choices front earlier last used d graph path takes so_far within =
 
 -- a path that goes on from the members has one more of them
 one_more : (other later tail : List ℕ) → other ≡ later ++ tail → length tail < length other
-    → (front : List ℕ) × (d : ℕ) × (other ≡ front ++ d ∷ tail)
+    → (prefix : List ℕ) × (d : ℕ) × (other ≡ prefix ++ d ∷ tail)
 one_more other later tail on more =
     let first = last_of later (omega (arith, ap length on, length-append later tail)) in
     (first.0, first.1, on ∙ ap (λ xs. xs ++ tail) first.2 ∙ append_assoc first.0 (first.1 ∷ []) tail)
@@ -108,7 +108,7 @@ one_more other later tail on more =
 pub next-only : (nodes : List Node) (steps : ℕ) (choices members : List ℕ) (last used : ℕ) (other : List ℕ)
     → IsGraph nodes
     → IsWalked nodes steps choices members last used → length members < steps → IsFollowed nodes steps choices other
-    → (front : List ℕ) × (d : ℕ) × (letter : List ℕ) × (other ≡ front ++ d ∷ members)
+    → (prefix : List ℕ) × (d : ℕ) × (letter : List ℕ) × (other ≡ prefix ++ d ∷ members)
     × (next_to (slice_get nodes last) (slice_get choices used) ≡ Some (d, length letter))
 next-only nodes steps choices members last used other graph walked more followed =
     let tail : List ℕ = last ∷ walked.earlier in

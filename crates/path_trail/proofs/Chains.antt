@@ -6,18 +6,18 @@ use Rattle.path_model.specs.Graph.{graph_step}
 use Rattle.path_trail.specs.Trail.{TrailEntry, node_at, earlier_at, IsChain, LeadsOn, IsTrail}
 
 -- with a chain of what stands before it, a node that is led to ends a path
-path-behind : (nodes : List Node) (entries : List TrailEntry) → IsTrail nodes entries
+path-after : (nodes : List Node) (entries : List TrailEntry) → IsTrail nodes entries
     → (members : List ℕ) (number : ℕ) (before : Option ℕ) (node : ℕ)
     → number < length entries → LeadsOn nodes entries number before node → IsChain entries before members
     → IsPath (graph_step nodes) 0 (node ∷ members)
-path-behind nodes entries trail [] number None node inside leads chain = leads
-path-behind nodes entries trail (x ∷ members) number None node inside leads chain = absurd chain
-path-behind nodes entries trail [] number (Some earlier) node inside leads chain = absurd chain
-path-behind nodes entries trail (x ∷ members) number (Some earlier) node inside leads chain =
+path-after nodes entries trail [] number None node inside leads chain = leads
+path-after nodes entries trail (x ∷ members) number None node inside leads chain = absurd chain
+path-after nodes entries trail [] number (Some earlier) node inside leads chain = absurd chain
+path-after nodes entries trail (x ∷ members) number (Some earlier) node inside leads chain =
     let smaller : earlier < number = leads.0 in
     let there : earlier < length entries = omega arith in (
       subst (λ (n : ℕ). IsSuccessor (graph_step nodes) n node) (sym chain.0) leads.1,
-      path-behind nodes entries trail members earlier (earlier_at entries earlier) x there
+      path-after nodes entries trail members earlier (earlier_at entries earlier) x there
           (subst (λ (n : ℕ). LeadsOn nodes entries earlier (earlier_at entries earlier) n) (sym chain.0)
           (trail earlier there)) chain.1,
     )
@@ -28,21 +28,21 @@ pub IsPath-chain : (nodes : List Node) (entries : List TrailEntry) (number : ℕ
     → IsChain entries (Some number) members → IsPath (graph_step nodes) 0 members
 IsPath-chain nodes entries number [] trail inside chain = absurd chain
 IsPath-chain nodes entries number (node ∷ members) trail inside chain =
-    path-behind nodes entries trail members number (earlier_at entries number) node inside
+    path-after nodes entries trail members number (earlier_at entries number) node inside
     (subst (λ (n : ℕ). LeadsOn nodes entries number (earlier_at entries number) n) (sym chain.0) (trail number inside))
     chain.1
 
 -- these members and any chain of the entry to go on with are a chain of the first entry
-pub record IsFront (entries : List TrailEntry) (first : ℕ) (members : List ℕ) (next : Option ℕ) : Type 0 where
+pub record IsPrefix (entries : List TrailEntry) (first : ℕ) (members : List ℕ) (next : Option ℕ) : Type 0 where
   pub inside : (number : ℕ) → next ≡ Some number → number < length entries
   pub goes_on : (rest : List ℕ) → IsChain entries next rest → IsChain entries (Some first) (members ++ rest)
 
 -- at first there are no members
-pub front_none : (entries : List TrailEntry) (first : ℕ) (members : List ℕ) → first < length entries → members ≡ []
-    → IsFront entries first members (Some first)
-front_none entries first members within none = record {
+pub prefix_none : (entries : List TrailEntry) (first : ℕ) (members : List ℕ) → first < length entries → members ≡ []
+    → IsPrefix entries first members (Some first)
+prefix_none entries first members within none = record {
   inside = λ number same. let equal : first ≡ number = cc in omega arith;
-  goes_on = λ rest chain. subst (λ (front : List ℕ). IsChain entries (Some first) (front ++ rest)) (sym none) chain;
+  goes_on = λ rest chain. subst (λ (prefix : List ℕ). IsChain entries (Some first) (prefix ++ rest)) (sym none) chain;
 }
 
 -- the entry before one that leads on has a smaller number
@@ -56,13 +56,13 @@ before_smaller nodes entries number (Some other) node earlier leads same =
     omega arith
 
 -- one member more
-pub front_more : (nodes : List Node) (entries : List TrailEntry) (first number node : ℕ) (members more : List ℕ)
+pub prefix_more : (nodes : List Node) (entries : List TrailEntry) (first number node : ℕ) (members more : List ℕ)
     (next before : Option ℕ) → IsTrail nodes entries
-    → IsFront entries first members next → next ≡ Some number → node ≡ node_at entries number
+    → IsPrefix entries first members next → next ≡ Some number → node ≡ node_at entries number
     → before ≡ earlier_at entries number
-    → more ≡ members ++ node ∷ [] → IsFront entries first more before
-front_more nodes entries first number node members more next before trail front at node_is before_is more_is =
-    let there : number < length entries = front.inside number at in
+    → more ≡ members ++ node ∷ [] → IsPrefix entries first more before
+prefix_more nodes entries first number node members more next before trail prefix at node_is before_is more_is =
+    let there : number < length entries = prefix.inside number at in
     record {
       inside = λ earlier same.
           let smaller = before_smaller nodes entries number before _ earlier
@@ -72,19 +72,19 @@ front_more nodes entries first number node members more next before trail front 
       goes_on = λ rest chain.
           let whole : IsChain entries (Some number) (node ∷ rest) =
           (node_is, subst (λ (o : Option ℕ). IsChain entries o rest) before_is chain) in
-          let on = front.goes_on (node ∷ rest) (subst (λ (o : Option ℕ). IsChain entries o (node ∷ rest)) (sym at)
+          let on = prefix.goes_on (node ∷ rest) (subst (λ (o : Option ℕ). IsChain entries o (node ∷ rest)) (sym at)
           whole) in
           subst (λ (xs : List ℕ). IsChain entries (Some first) (xs ++ rest)) (sym more_is)
           (subst (λ (xs : List ℕ). IsChain entries (Some first) xs) (sym (append_assoc members (node ∷ []) rest)) on);
     }
 
 -- with no entry to go on with, the members are the chain
-pub front_all : (entries : List TrailEntry) (first : ℕ) (members : List ℕ) (next : Option ℕ)
-    → IsFront entries first members next → next ≡ None
+pub prefix_all : (entries : List TrailEntry) (first : ℕ) (members : List ℕ) (next : Option ℕ)
+    → IsPrefix entries first members next → next ≡ None
     → IsChain entries (Some first) members
-front_all entries first members next front done =
+prefix_all entries first members next prefix done =
     subst (λ (xs : List ℕ). IsChain entries (Some first) xs) (append-nil members)
-    (front.goes_on [] (subst (λ (o : Option ℕ). IsChain entries o []) (sym done) tt))
+    (prefix.goes_on [] (subst (λ (o : Option ℕ). IsChain entries o []) (sym done) tt))
 
 -- how many entries may still come
 abbrev pub left : Option ℕ → ℕ
@@ -94,10 +94,10 @@ left (Some number) = number + 1
 -- the chain goes down
 pub left_smaller : (nodes : List Node) (entries : List TrailEntry) (first number : ℕ) (members : List ℕ)
     (next before : Option ℕ) → IsTrail nodes entries
-    → IsFront entries first members next → next ≡ Some number → before ≡ earlier_at entries number
+    → IsPrefix entries first members next → next ≡ Some number → before ≡ earlier_at entries number
     → left before < left next
-left_smaller nodes entries first number members next before trail front at before_is =
-    let there : number < length entries = front.inside number at in
+left_smaller nodes entries first number members next before trail prefix at before_is =
+    let there : number < length entries = prefix.inside number at in
     let leads = subst (λ (o : Option ℕ). LeadsOn nodes entries number o (node_at entries number)) (sym before_is)
     (trail number there) in
     subst (λ (o : Option ℕ). left before < left o) (sym at) (below before leads)

@@ -14,7 +14,7 @@ use Rattle.plain_family.specs.Family.{IsBefore, IsFamily, IsPlaceOf}
 
 -- a set after another, the other way round
 before_back : (s t : List ℕ) → slice_cmp nat_cmp s t ≡ Greater → IsBefore t s
-before_back s t behind = nat_list_cmp_total.antisymm t s ∙ ap ordering_reverse behind
+before_back s t later = nat_list_cmp_total.antisymm t s ∙ ap ordering_reverse later
 
 -- the order, as the search asks for it
 sorted_from_ordered : (sets : List (List ℕ)) → AllPairs IsBefore sets
@@ -29,9 +29,10 @@ pub place_from_search : (sets : List (List ℕ)) (s : List ℕ) (r : Result ℕ 
     → IsBinarySearchResult (λ t. slice_cmp nat_cmp t s) sets r → IsPlaceOf sets s r
 place_from_search sets s (Ok i) ordered within found = (i, within, exact_bytes _ _ (found s))
 place_from_search sets s (Err i) ordered within found =
-    let parted = found (searchable_from_sorted nat_list_cmp_total (λ t. t) sets s (sorted_from_ordered sets ordered)) in (
+    let sorted = sorted_from_ordered sets ordered in
+    let parted = found (searchable_from_sorted nat_list_cmp_total (λ t. t) sets s sorted) in (
       within,
-      λ k d front. parted.0 k d (omega arith) front,
+      λ k d prefix. parted.0 k d (omega arith) prefix,
       λ k d back inside. before_back (get_or sets k d) s (parted.1 k d back inside),
     )
 
@@ -42,7 +43,7 @@ never_before_itself s less = let tied = tied_itself nat_list_cmp_total s in cc
 -- a set that belongs between others is not there
 pub absent : (sets : List (List ℕ)) (s : List ℕ) (i : ℕ) → IsPlaceOf sets s (Err i) → Contains sets s → ⊥
 absent sets s i place there = elim (cases_lt there.0 i) [
-  | inl front ↦ never_before_itself s (subst (λ t. IsBefore t s) there.2 (place.1 there.0 s front))
+  | inl prefix ↦ never_before_itself s (subst (λ t. IsBefore t s) there.2 (place.1 there.0 s prefix))
   | inr back ↦ never_before_itself s (subst (λ t. IsBefore s t) there.2 (place.2 there.0 s back there.1))
 ]
 

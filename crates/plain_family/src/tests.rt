@@ -12,9 +12,9 @@ fn set_of(alloc: Global, numbers: &[u16]) -> Result<SetList, AllocError> {
 // {1}, {1, 2}, {2, 3}, put together out of order.
 fn sample(alloc: Global) -> Result<PlainFamily, AllocError> {
     let late = PlainFamily::of(alloc, &set_of(alloc, &[2, 3])?)?;
-    let front = PlainFamily::of(alloc, &set_of(alloc, &[1])?)?;
+    let early = PlainFamily::of(alloc, &set_of(alloc, &[1])?)?;
     let long = PlainFamily::of(alloc, &set_of(alloc, &[1, 2])?)?;
-    late.union(&long)?.union(&front)
+    late.union(&long)?.union(&early)
 }
 
 // Whether the family's sets are these, in this order.
@@ -69,7 +69,7 @@ fn sets_that_a_number_makes_equal_merge(rt: HostRuntime) -> Result<(), AllocErro
 }
 
 #[test]
-fn minimal_and_maximal_sets_are_told_apart(rt: HostRuntime) -> Result<(), AllocError> {
+fn minimal_and_maximal_sets_differ(rt: HostRuntime) -> Result<(), AllocError> {
     let family = sample(rt.alloc())?;
     assert!(rt; has_sets(&family.minimal()?, &[&[1], &[2, 3]]));
     assert!(rt; has_sets(&family.maximal()?, &[&[1, 2], &[2, 3]]));

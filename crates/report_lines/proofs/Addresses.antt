@@ -80,21 +80,21 @@ module _ (image : Image) (entry : ℕ) (g : Geometry) (configurations : List Con
   -- a line before those after its last address
   with_line : (p : ℕ) (line : Line) (lines : List Line) → IsText image p → IsLineAt image nodes verdicts p line
       → Listed (last_of line + 4) lines → Listed p (line ∷ lines)
-  with_line p (Context node at depth back verdict) lines text is behind = absurd is
-  with_line p (At at verdict) lines text (same, merged) behind = record {
+  with_line p (Context node at depth back verdict) lines text is beyond = absurd is
+  with_line p (At at verdict) lines text (same, merged) beyond = record {
     words = subst (λ (q : ℕ). IsListed image p (q ∷ flat_map addresses_of lines)) (sym same)
         (listed_words image p 1 (flat_map addresses_of lines) (text, tt)
         (let end : at + 4 ≡ p + 4 * 1 = omega (arith, same) in
-        subst (λ (q : ℕ). IsListed image q (flat_map addresses_of lines)) end behind.words));
+        subst (λ (q : ℕ). IsListed image q (flat_map addresses_of lines)) end beyond.words));
     right = (
       merged_right image entry g configurations nodes verdicts found.graph found.right at verdict
           (subst (λ (q : ℕ). IsMerged nodes verdicts q verdict) (sym same) merged),
-      behind.right,
+      beyond.right,
     );
-    greatest = behind.greatest;
+    greatest = beyond.greatest;
     begins = tt;
   }
-  with_line p (Unreachable first last) lines text (same, range) behind =
+  with_line p (Unreachable first last) lines text (same, range) beyond =
       let count = (last - first) / 4 + 1 in
       let (i, below, at) = word_place first count last range.ends in
       let end : last + 4 ≡ first + 4 * count = omega (arith, below, at) in
@@ -102,27 +102,27 @@ module _ (image : Image) (entry : ℕ) (g : Geometry) (configurations : List Con
       subst (λ (q : ℕ). Listed q (Unreachable first last ∷ lines)) same (record {
         words = listed_words image first count (flat_map addresses_of lines)
             (all_weaker (IsBare image nodes) (IsText image) (words_from first count) (λ x b. b.text) range.words)
-            (subst (λ (q : ℕ). IsListed image q (flat_map addresses_of lines)) end behind.words);
+            (subst (λ (q : ℕ). IsListed image q (flat_map addresses_of lines)) end beyond.words);
         right = (
           (
             range.ends,
             all_weaker (IsBare image nodes) (IsUnreached image entry) (words_from first count)
                 (λ x b. bare x b.bare) range.words,
           ),
-          behind.right,
+          beyond.right,
         );
-        greatest = still_greatest image nodes first last lines range.greatest behind.begins behind.greatest;
+        greatest = still_greatest image nodes first last lines range.greatest beyond.begins beyond.greatest;
         begins = first_bare first ((last - first) / 4) range.words;
       })
 
   -- what begins after a line, where those from the next word on are listed
-  behind_line : (from : ℕ) (lines : List Line)
+  after_line : (from : ℕ) (lines : List Line)
       → ((q : ℕ) → AreAllFrom (IsByAddress image nodes verdicts) (Some q) lines → Listed q lines)
       → (next : Option ℕ) → IsNextText image from next → AreAllFrom (IsByAddress image nodes verdicts) next lines
       → Listed from lines
-  behind_line from lines later None none empty = subst (λ (ls : List Line). Listed from ls) (sym empty)
+  after_line from lines later None none empty = subst (λ (ls : List Line). Listed from ls) (sym empty)
       (record { words = listed_none image from none; right = tt; greatest = tt; begins = tt })
-  behind_line from lines later (Some q) to all =
+  after_line from lines later (Some q) to all =
       let at_q = later q all in
       record {
         words = listed_from_next image from q (flat_map addresses_of lines) to at_q.words;
@@ -135,8 +135,8 @@ module _ (image : Image) (entry : ℕ) (g : Geometry) (configurations : List Con
   listed : (lines : List Line) (from : ℕ) → AreAllFrom (IsByAddress image nodes verdicts) (Some from) lines
       → Listed from lines
   listed [] from none = record { words = listed_none image from none; right = tt; greatest = tt; begins = tt }
-  listed (line ∷ lines) from (next, (p, first, line_is, behind), later) =
-      let at_p = with_line p line lines first.0 line_is (behind_line (last_of line + 4) lines (listed lines) next behind
+  listed (line ∷ lines) from (next, (p, first, line_is, beyond), later) =
+      let at_p = with_line p line lines first.0 line_is (after_line (last_of line + 4) lines (listed lines) next beyond
       later) in
       record {
         words = listed_from_next image from p (flat_map addresses_of (line ∷ lines)) first at_p.words;

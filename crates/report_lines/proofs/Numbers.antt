@@ -65,16 +65,16 @@ module _ (image : Image) (entry : ℕ) (g : Geometry) (configurations : List Con
       )
 
   -- what stands after a number, where the lines from the next on are those of the configurations left
-  behind_number : (k : ℕ) (lines : List Line) → (AreAllFrom (IsByNumber configurations verdicts) (Some (k + 1)) lines
+  after_number : (k : ℕ) (lines : List Line) → (AreAllFrom (IsByNumber configurations verdicts) (Some (k + 1)) lines
       → AreContextLines image entry g (k + 1) (drop (k + 1) configurations) lines)
       → (next : Option ℕ) → next ≡ (if nat_lt (k + 1) (length configurations) then Some (k + 1) else None)
       → AreAllFrom (IsByNumber configurations verdicts) next lines → (more : Bool)
       → nat_lt (k + 1) (length configurations) ≡ more
       → AreContextLines image entry g (k + 1) (drop (k + 1) configurations) lines
-  behind_number k lines later next next_is all true is =
+  after_number k lines later next next_is all true is =
       let to : next ≡ Some (k + 1) = next_is ∙ rw is refl in
       later (subst (λ (p : Option ℕ). AreAllFrom (IsByNumber configurations verdicts) p lines) to all)
-  behind_number k lines later next next_is all false is =
+  after_number k lines later next next_is all false is =
       let to : next ≡ None = next_is ∙ rw is refl in
       let none : lines ≡ [] = subst (λ (p : Option ℕ). AreAllFrom (IsByNumber configurations verdicts) p lines) to
       all in
@@ -104,7 +104,7 @@ module _ (image : Image) (entry : ℕ) (g : Geometry) (configurations : List Con
       tt
   context_lines (line ∷ lines) k (next, (line_is, next_is), later) =
       with_context k line lines line_is
-      (behind_number k lines (context_lines lines (k + 1)) next next_is later (nat_lt (k + 1) (length configurations))
+      (after_number k lines (context_lines lines (k + 1)) next next_is later (nat_lt (k + 1) (length configurations))
       refl)
 
   -- each number of a configuration has its line
@@ -117,8 +117,8 @@ module _ (image : Image) (entry : ℕ) (g : Geometry) (configurations : List Con
       )
 
   -- the number after one, where it is that of a configuration
-  abbrev behind_of : ℕ → Option ℕ
-  behind_of k = if nat_lt (k + 1) (length configurations) then Some (k + 1) else None
+  abbrev after_of : ℕ → Option ℕ
+  after_of k = if nat_lt (k + 1) (length configurations) then Some (k + 1) else None
 
   -- there are lines from the number after one on, where there are such from it on
   rest_there : (k : ℕ) → ((lines : List Line) × AreAllFrom (IsByNumber configurations verdicts) (Some (k + 1)) lines)
@@ -137,7 +137,7 @@ module _ (image : Image) (entry : ℕ) (g : Geometry) (configurations : List Con
   number_left k later true is =
       let (line, line_is) = line_there k (grind (arith, nat_tests, is)) in
       let (lines, all) = rest_there k later (nat_lt (k + 1) (length configurations)) in
-      (line ∷ lines, (behind_of k, (line_is, refl), all))
+      (line ∷ lines, (after_of k, (line_is, refl), all))
 
   -- there are such lines from each number on
   pub numbers_left : (left k : ℕ) → length configurations ≤ k + left

@@ -148,38 +148,38 @@ module _ (image : Image) (within : IsWithin image) where
   -- what is next from the address after one that isn't in the text is next from there
   skip : (from : ℕ) (next : Option ℕ) → is_text image from ≡ false → IsNextText image (from + 1) next
       → IsNextText image from next
-  skip from None bare later = λ n at. none_of (is_text image n) (λ text. at_or_behind n at text (n == from) refl) where
-    at_or_behind : (n : ℕ) → from ≤ n → IsTrue (is_text image n) → (same : Bool) → (n == from) ≡ same → ⊥
-    at_or_behind n at text true is =
+  skip from None bare later = λ n at. none_of (is_text image n) (λ text. at_or_after n at text (n == from) refl) where
+    at_or_after : (n : ℕ) → from ≤ n → IsTrue (is_text image n) → (same : Bool) → (n == from) ≡ same → ⊥
+    at_or_after n at text true is =
         let one : n ≡ from = grind (arith, nat_tests, is) in
         let here : is_text image from ≡ true = subst (λ (k : ℕ). is_text image k ≡ true) one text in cc (here, bare)
-    at_or_behind n at text false is =
-        let behind : from + 1 ≤ n = grind (arith, nat_tests, is, at) in let none = later n behind in cc (text, none)
+    at_or_after n at text false is =
+        let beyond : from + 1 ≤ n = grind (arith, nat_tests, is, at) in let none = later n beyond in cc (text, none)
   skip from (Some found) bare later = (
     later.0,
     omega (arith, later.1),
-    λ n at text. at_or_behind n at text (n == from) refl,
+    λ n at text. at_or_after n at text (n == from) refl,
   ) where
-    at_or_behind : (n : ℕ) → from ≤ n → IsTrue (is_text image n) → (same : Bool) → (n == from) ≡ same → found ≤ n
-    at_or_behind n at text true is =
+    at_or_after : (n : ℕ) → from ≤ n → IsTrue (is_text image n) → (same : Bool) → (n == from) ≡ same → found ≤ n
+    at_or_after n at text true is =
         let one : n ≡ from = grind (arith, nat_tests, is) in
         let here : is_text image from ≡ true =
         subst (λ (k : ℕ). is_text image k ≡ true) one text in absurd (cc (here, bare))
-    at_or_behind n at text false is =
-        let behind : from + 1 ≤ n = grind (arith, nat_tests, is, at) in later.2 n behind text
+    at_or_after n at text false is =
+        let beyond : from + 1 ≤ n = grind (arith, nat_tests, is, at) in later.2 n beyond text
 
   -- the next word is here, or after
-  here_or_behind : (from : ℕ) → ((next : Option ℕ) × IsNextText image (from + 1) next) → (text : Bool)
+  here_or_after : (from : ℕ) → ((next : Option ℕ) × IsNextText image (from + 1) next) → (text : Bool)
       → is_text image from ≡ text
       → (next : Option ℕ) × IsNextText image from next
-  here_or_behind from later true is = (Some from, (is, omega arith, λ n at text. at))
-  here_or_behind from later false is = (later.0, skip from later.0 is later.1)
+  here_or_after from later true is = (Some from, (is, omega arith, λ n at text. at))
+  here_or_after from later false is = (later.0, skip from later.0 is later.1)
 
   -- the next word of the text, or none is left
   pub next_there : (left from : ℕ) → 2 ^ 32 ≤ from + left → (next : Option ℕ) × IsNextText image from next
   next_there zero from room =
       (None, λ n at. none_of (is_text image n) (λ text. let below = within n text in omega (arith, room, at, below)))
-  next_there (suc left) from room = here_or_behind from (next_there left (from + 1) (omega (arith, room)))
+  next_there (suc left) from room = here_or_after from (next_there left (from + 1) (omega (arith, room)))
       (is_text image from) refl
 
   module _ (nodes : List Node) where
@@ -236,19 +236,19 @@ module _ (image : Image) (within : IsWithin image) where
       ]
 
       -- the lines from the next word on, where there are such from each later address on
-      behind_word : (from : ℕ) → ((q : ℕ) → from < q
+      after_word : (from : ℕ) → ((q : ℕ) → from < q
           → (lines : List Line) × AreAllFrom (IsByAddress image nodes verdicts) (Some q) lines) → (next : Option ℕ)
           → ((q : ℕ) → next ≡ Some q → from < q)
           → (lines : List Line) × AreAllFrom (IsByAddress image nodes verdicts) next lines
-      behind_word from later None order = ([], refl)
-      behind_word from later (Some q) order = later q (order q refl)
+      after_word from later None order = ([], refl)
+      after_word from later (Some q) order = later q (order q refl)
 
       -- the next word lies after
-      next_behind : (from last : ℕ) (next : Option ℕ) → from < last + 4 → IsNextText image (last + 4) next → (q : ℕ)
+      next_after : (from last : ℕ) (next : Option ℕ) → from < last + 4 → IsNextText image (last + 4) next → (q : ℕ)
           → next ≡ Some q
           → from < q
-      next_behind from last None order is q same = absurd (cc same)
-      next_behind from last (Some r) order is q same = let one : r ≡ q = cc same in omega (arith, order, is.1, one)
+      next_after from last None order is q same = absurd (cc same)
+      next_after from last (Some r) order is q same = let one : r ≡ q = cc same in omega (arith, order, is.1, one)
 
       -- the line of the next word, and the lines after it
       at_word : (from : ℕ)
@@ -260,7 +260,7 @@ module _ (image : Image) (within : IsWithin image) where
           let (line, line_is, order) = line_there p is.0 in
           let (next, next_is) = next_there (2 ^ 32) (last_of line + 4) (omega arith) in
           let after : from < last_of line + 4 = omega (arith, is.1, order) in
-          let (lines, all) = behind_word from later next (next_behind from (last_of line) next after next_is) in
+          let (lines, all) = after_word from later next (next_after from (last_of line) next after next_is) in
           (line ∷ lines, (next, (p, is, line_is, next_is), all))
 
       -- no line is left where no address is

@@ -70,9 +70,9 @@ pub listed_words : (image : Image) (p n : ℕ) (words : List ℕ) → AllByRecur
 listed_words image p zero words all listed =
     let here : p + 4 * 0 ≡ p = omega arith in subst (λ (q : ℕ). IsListed image q words) here listed
 listed_words image p (suc n) words (text, all) listed =
-    let behind : p + 4 * suc n ≡ p + 4 + 4 * n = omega arith in
+    let beyond : p + 4 * suc n ≡ p + 4 + 4 * n = omega arith in
     listed_word image p (words_from (p + 4) n ++ words) text
-    (listed_words image (p + 4) n words all (subst (λ (q : ℕ). IsListed image q words) behind listed))
+    (listed_words image (p + 4) n words all (subst (λ (q : ℕ). IsListed image q words) beyond listed))
 
 -- a fact on each that follows from another
 pub all_weaker : {A : Type 0} (P Q : A → Type 0) (xs : List A) → ((x : A) → P x → Q x) → AllByRecursion P xs

@@ -16,8 +16,9 @@ Stands false image configurations nodes verdicts = IsByAddress image nodes verdi
 abbrev pub AreAllFrom : (ℕ → Option (Line × Option ℕ) → Type 0) → Option ℕ → List Line → Type 0
 AreAllFrom At None lines = lines ≡ []
 AreAllFrom At (Some cursor) [] = At cursor None
-AreAllFrom At (Some cursor) (line ∷ lines) = (next : Option ℕ) × At cursor (Some (line, next)) × AreAllFrom At next lines
+AreAllFrom At (Some cursor) (line ∷ lines) =
+    (next : Option ℕ) × At cursor (Some (line, next)) × AreAllFrom At next lines
 
 -- the lines are those before a cursor: with all from there on they are all lines
 abbrev pub AreAllBefore : (ℕ → Option (Line × Option ℕ) → Type 0) → Option ℕ → List Line → Type 0
-AreAllBefore At next front = (rest : List Line) → AreAllFrom At next rest → AreAllFrom At (Some 0) (front ++ rest)
+AreAllBefore At next prefix = (rest : List Line) → AreAllFrom At next rest → AreAllFrom At (Some 0) (prefix ++ rest)

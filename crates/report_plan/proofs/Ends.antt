@@ -108,7 +108,7 @@ pub none-more : (verdicts : List Verdict) (hits : Bool) (here : List ℕ) (i : �
     → (MayEnd verdicts hits (get_or here i 0) → ⊥)
     → (n : ℕ) → Contains (take (i + 1) here) n → MayEnd verdicts hits n → ⊥
 none-more verdicts hits here i inside none next n listed may =
-    let P : List ℕ → Type 0 = λ front. Contains front n in
+    let P : List ℕ → Type 0 = λ prefix. Contains prefix n in
     let Q : ℕ → Type 0 = λ n. MayEnd verdicts hits n in
     ⊎_elim
     (λ (earlier : Contains (take i here) n). none n earlier may)

@@ -9,7 +9,7 @@ use crate::before::Befores;
 use crate::copies::copy_verdict;
 use crate::merge::merged;
 use crate::order::in_order;
-use crate::range::{range_end, word_behind};
+use crate::range::{range_end, word_after};
 use call_expand::{Expanded, Frame};
 use elf_image::Image;
 use path_model::Graph;
@@ -107,7 +107,7 @@ impl Plan {
             return Ok(None);
         };
         let line = self.line_at(alloc, image, graph, verdicts, at)?;
-        let next = word_behind(image, last_of(&line));
+        let next = word_after(image, last_of(&line));
         Ok(Some((line, next)))
     }
 

@@ -9,7 +9,7 @@ use elf_image::Image;
 use path_model::Node;
 
 /// The next word of the text after an address, if there is one.
-pub(crate) fn word_behind(image: &Image, address: u32) -> Option<u32>
+pub(crate) fn word_after(image: &Image, address: u32) -> Option<u32>
     ensures { IsNextText image.now (address + 4) result }
 {
     // No word ends above the last address, as the segments tell.
@@ -19,12 +19,12 @@ pub(crate) fn word_behind(image: &Image, address: u32) -> Option<u32>
 }
 
 // The word right after an address, where no node is at it.
-fn bare_behind(order: &[u32], image: &Image, nodes: &[Node], address: u32) -> Option<u32>
+fn bare_after(order: &[u32], image: &Image, nodes: &[Node], address: u32) -> Option<u32>
     requires { AreInOrder nodes.now order.now }
     ensures some { IfSome result (λ next. (next ≡ address + 4) × IsBare image.now nodes.now next) }
     ensures none { IfNone result (IsBare image.now nodes.now (address + 4) → ⊥) }
 {
-    let next = word_behind(image, address)?;
+    let next = word_after(image, address)?;
     if next - address > 4 {
         return None;
     }
@@ -39,7 +39,7 @@ pub(crate) fn range_end(order: &[u32], image: &Image, nodes: &[Node], first: u32
     ensures range { IsBareRange image.now nodes.now first result }
 {
     let mut last = first;
-    while let Some(next) = bare_behind(order, image, nodes, last) {
+    while let Some(next) = bare_after(order, image, nodes, last) {
         last = next;
     }
     last

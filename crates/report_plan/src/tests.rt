@@ -124,7 +124,7 @@ fn check(
         (Some((line, next)), Some((text, cursor))) => {
             let shown = line_text(alloc, &line)?;
             assert!(rt; shown.as_str() == text, "at {from:x}: {shown}");
-            assert!(rt; next == cursor, "behind {from:x}");
+            assert!(rt; next == cursor, "after {from:x}");
         }
         (None, None) => {}
         _ => assert!(rt; false, "at {from:x}"),

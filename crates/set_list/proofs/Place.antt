@@ -22,5 +22,5 @@ pub rising-insert : (xs : List ℕ) (i x : ℕ) → IsStrictlyIncreasing xs
 rising-insert xs i x up place =
     let (within, below, above) = searched xs x (Err i) place (never_falls xs up) in
     rising_from_AllPairs _ (AllPairs-insert (λ a b. a < b) xs i x within (AllPairs-from_increasing xs up)
-    (λ k d front. let inside : k < length xs = omega arith in rw (get_or_default xs k d 0 inside) (below k front))
+    (λ k d prefix. let inside : k < length xs = omega arith in rw (get_or_default xs k d 0 inside) (below k prefix))
     (λ k d back inside. rw (get_or_default xs k d 0 inside) (above k back inside)))

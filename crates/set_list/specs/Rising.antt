@@ -12,9 +12,9 @@ related : {X : Type 0} (R : X → X → Type 0) (a b c d : X) → a ≡ c → b 
 related R a b c d p q r = subst (λ v. R v b) (sym p) (subst (λ v. R c v) (sym q) r)
 
 -- after the new element stands what stood one place before
-get_or-insert_behind : {X : Type 0} (xs : List X) (i : ℕ) (y d : X) (k : ℕ) → i < k → i ≤ length xs
+get_or-insert_after : {X : Type 0} (xs : List X) (i : ℕ) (y d : X) (k : ℕ) → i < k → i ≤ length xs
     → get_or (insert xs i y) k d ≡ get_or xs (k - 1) d
-get_or-insert_behind xs i y d k behind within =
+get_or-insert_after xs i y d k beyond within =
     let same : k ≡ (k - 1) + 1 = omega arith in
     ap (λ n. get_or (insert xs i y) n d) same ∙ get_or-insert_above xs i y d (k - 1) (omega arith) within
 
@@ -25,32 +25,32 @@ pub AllPairs-insert : {X : Type 0} (R : X → X → Type 0) (xs : List X) (i : �
 AllPairs-insert R xs i y within pairs below above j k d before inside =
     let longer = length-insert xs i y within in
     elim (cases_lt k i) [
-      | inl k_front ↦ related R _ _ _ _ (get_or-insert_below xs i y d j (omega arith) within)
-          (get_or-insert_below xs i y d k k_front within) (pairs j k d before (omega arith))
+      | inl k_prefix ↦ related R _ _ _ _ (get_or-insert_below xs i y d j (omega arith) within)
+          (get_or-insert_below xs i y d k k_prefix within) (pairs j k d before (omega arith))
       | inr k_back ↦ elim (cases_lt j i) [
-        | inl j_front ↦ elim (cases_lt i k) [
-          | inl k_behind ↦ related R _ _ _ _ (get_or-insert_below xs i y d j j_front within)
-              (get_or-insert_behind xs i y d k k_behind within) (pairs j (k - 1) d (omega arith) (omega arith))
+        | inl j_prefix ↦ elim (cases_lt i k) [
+          | inl k_after ↦ related R _ _ _ _ (get_or-insert_below xs i y d j j_prefix within)
+              (get_or-insert_after xs i y d k k_after within) (pairs j (k - 1) d (omega arith) (omega arith))
           | inr k_at ↦
               let same : k ≡ i = omega arith in
-              related R _ _ _ _ (get_or-insert_below xs i y d j j_front within)
-              (ap (λ n. get_or (insert xs i y) n d) same ∙ get_or-insert_at xs i y d within) (below j d j_front)
+              related R _ _ _ _ (get_or-insert_below xs i y d j j_prefix within)
+              (ap (λ n. get_or (insert xs i y) n d) same ∙ get_or-insert_at xs i y d within) (below j d j_prefix)
         ]
         | inr j_back ↦ elim (cases_lt i j) [
-          | inl j_behind ↦ related R _ _ _ _ (get_or-insert_behind xs i y d j j_behind within)
-              (get_or-insert_behind xs i y d k (omega arith) within)
+          | inl j_after ↦ related R _ _ _ _ (get_or-insert_after xs i y d j j_after within)
+              (get_or-insert_after xs i y d k (omega arith) within)
               (pairs (j - 1) (k - 1) d (omega arith) (omega arith))
           | inr j_at ↦
               let same : j ≡ i = omega arith in
               related R _ _ _ _ (ap (λ n. get_or (insert xs i y) n d) same ∙ get_or-insert_at xs i y d within)
-              (get_or-insert_behind xs i y d k (omega arith) within) (above (k - 1) d (omega arith) (omega arith))
+              (get_or-insert_after xs i y d k (omega arith) within) (above (k - 1) d (omega arith) (omega arith))
         ]
       ]
     ]
 
 -- what a list contains with one more element
-pub Contains-front : {X : Type 0} (x : X) (xs : List X) (y : X) → Contains (x ∷ xs) y ↔ (Contains xs y ⊎ (y ≡ x))
-Contains-front x xs y = (
+pub Contains-cons : {X : Type 0} (x : X) (xs : List X) (y : X) → Contains (x ∷ xs) y ↔ (Contains xs y ⊎ (y ≡ x))
+Contains-cons x xs y = (
   λ there. elim (has-cases x y xs there) [ inl same ↦ inr same | inr rest ↦ inl rest ],
   λ either. elim either [ inl rest ↦ has-later x y xs rest | inr same ↦ (0, omega arith, sym same) ],
 )
@@ -60,8 +60,8 @@ pub Contains-insert : {X : Type 0} (xs : List X) (i : ℕ) (x y : X)
     → Contains (insert xs i x) y ↔ (Contains xs y ⊎ (y ≡ x))
 Contains-insert xs i x y =
     let moved = IsPermutation-insert xs i x in (
-      λ there. (Contains-front x xs y).0 (Contains-permutation _ _ y (IsPermutation-sym _ _ moved) there),
-      λ either. Contains-permutation _ _ y moved ((Contains-front x xs y).1 either),
+      λ there. (Contains-cons x xs y).0 (Contains-permutation _ _ y (IsPermutation-sym _ _ moved) there),
+      λ either. Contains-permutation _ _ y moved ((Contains-cons x xs y).1 either),
     )
 
 -- numbers of which each is below all later ones rise

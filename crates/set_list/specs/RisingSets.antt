@@ -5,7 +5,7 @@ use Rattle.std.proofs.lemmas.List.Elements.{Contains-append_right}
 use Rattle.std.proofs.lemmas.List.Kept.{AllPairs-from_increasing}
 use Rattle.std.specs.List.Sorted.{IsStrictlyIncreasing}
 use Rattle.set_list.specs.SetList.{IsSubset}
-use Rattle.set_list.specs.Rising.{Contains-front}
+use Rattle.set_list.specs.Rising.{Contains-cons}
 
 -- the empty list rises
 pub rising-empty : IsStrictlyIncreasing []
@@ -39,15 +39,15 @@ above_first x xs y up there =
 
 -- no number is below the first
 pub not_below_first : (x : ℕ) (xs : List ℕ) (y : ℕ) → IsStrictlyIncreasing (x ∷ xs) → Contains (x ∷ xs) y → x ≤ y
-not_below_first x xs y up there = elim ((Contains-front x xs y).0 there) [
-  | inl behind ↦ let above = above_first x xs y up behind in omega arith
+not_below_first x xs y up there = elim ((Contains-cons x xs y).0 there) [
+  | inl later ↦ let above = above_first x xs y up later in omega arith
   | inr first ↦ omega (arith, first)
 ]
 
 -- a number above the first stands after it
-pub behind_first : (x : ℕ) (xs : List ℕ) (y : ℕ) → x < y → Contains (x ∷ xs) y → Contains xs y
-behind_first x xs y above there =
-    elim ((Contains-front x xs y).0 there) [ inl behind ↦ behind | inr first ↦ absurd (omega (arith, first)) ]
+pub after_first : (x : ℕ) (xs : List ℕ) (y : ℕ) → x < y → Contains (x ∷ xs) y → Contains xs y
+after_first x xs y above there =
+    elim ((Contains-cons x xs y).0 there) [ inl later ↦ later | inr first ↦ absurd (omega (arith, first)) ]
 
 -- a subset has fewer numbers or is the same set
 pub smaller_or_same : (s t : List ℕ) → IsStrictlyIncreasing s → IsStrictlyIncreasing t → IsSubset s t
@@ -55,25 +55,25 @@ pub smaller_or_same : (s t : List ℕ) → IsStrictlyIncreasing s → IsStrictly
 smaller_or_same [] [] s_up t_up subset = inr refl
 smaller_or_same [] (b ∷ t) s_up t_up subset = inl (omega arith)
 smaller_or_same (a ∷ s) [] s_up t_up subset =
-    let there : Contains [] a = subset a ((Contains-front a s a).1 (inr refl)) in
+    let there : Contains [] a = subset a ((Contains-cons a s a).1 (inr refl)) in
     absurd (omega (arith, there.1))
 smaller_or_same (a ∷ s) (b ∷ t) s_up t_up subset = elim (cases_order a b) [
   | inl same ↦
       let rest : IsSubset s t = λ y there.
       let above = above_first a s y s_up there in
-      behind_first b t y (omega (arith, above, same)) (subset y (Contains-append_right (a ∷ []) s y there)) in
+      after_first b t y (omega (arith, above, same)) (subset y (Contains-append_right (a ∷ []) s y there)) in
       elim (smaller_or_same s t (rising-tail a s s_up) (rising-tail b t t_up) rest) [
         | inl fewer ↦ inl (omega (arith, fewer))
         | inr equal ↦ inr (cc (same, equal))
       ]
   | inr other ↦ elim other [
     | inl below ↦
-        let least = not_below_first b t a t_up (subset a ((Contains-front a s a).1 (inr refl))) in
+        let least = not_below_first b t a t_up (subset a ((Contains-cons a s a).1 (inr refl))) in
         absurd (omega (arith, below, least))
     | inr above ↦
         let rest : IsSubset (a ∷ s) t = λ y there.
         let least = not_below_first a s y s_up there in
-        behind_first b t y (omega (arith, above, least)) (subset y there) in
+        after_first b t y (omega (arith, above, least)) (subset y there) in
         elim (smaller_or_same (a ∷ s) t s_up (rising-tail b t t_up) rest) [
           | inl fewer ↦ inl (omega (arith, fewer))
           | inr equal ↦ let long = ap length equal in inl (omega (arith, long))

@@ -176,7 +176,7 @@ mod tests {
     }
 
     #[test]
-    fn a_front_comes_first(rt: HostRuntime) -> Result<(), AllocError> {
+    fn a_prefix_comes_first(rt: HostRuntime) -> Result<(), AllocError> {
         let short = set_of(rt.alloc(), &[1])?;
         let long = set_of(rt.alloc(), &[1, 2])?;
         let late = set_of(rt.alloc(), &[2])?;

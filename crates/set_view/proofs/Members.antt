@@ -26,7 +26,7 @@ listed-cases None address addresses g set block rest is later listed =
 listed-cases (Some first) address addresses g set block rest is later listed =
     elim (has-cases first block rest listed) [
       | inl same ↦ (address, has-first address addresses, is ∙ ap Some (sym same))
-      | inr behind ↦ lies-further address addresses g set block (later behind)
+      | inr beyond ↦ lies-further address addresses g set block (later beyond)
     ]
 
 -- each listed block is one that a node fetches

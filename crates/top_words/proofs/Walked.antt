@@ -37,18 +37,18 @@ bytes-option kinds words first text rest at =
     ∙ ap (λ bytes. bytes ∷ bytes_of (later_of words)) (sym at.text_is)
 
 -- the same asked of the arguments after an option, where an argument stands after its name
-behind-next : {X : Type 0} (flag : Bool) (Q : List (String Global) → X) (next : String Global)
+after-next : {X : Type 0} (flag : Bool) (Q : List (String Global) → X) (next : String Global)
     (words rest : List (String Global))
     → (if flag then Some (next ∷ words) else Some words) ≡ Some rest
     → (if flag then Q (next ∷ words) else Q words) ≡ Q rest
-behind-next true Q next words rest is = let same : next ∷ words ≡ rest = cc in ap Q same
-behind-next false Q next words rest is = let same : words ≡ rest = cc in ap Q same
+after-next true Q next words rest is = let same : next ∷ words ≡ rest = cc in ap Q same
+after-next false Q next words rest is = let same : words ≡ rest = cc in ap Q same
 
 -- nothing stands after an option that is the last argument
-behind-last : (flag : Bool) (rest : List (String Global)) → (if flag then Some [] else None) ≡ Some rest
+after-last : (flag : Bool) (rest : List (String Global)) → (if flag then Some [] else None) ≡ Some rest
     → (flag ≡ true) × ([] ≡ rest)
-behind-last true rest is = (refl, cc)
-behind-last false rest is = absurd (cc)
+after-last true rest is = (refl, cc)
+after-last false rest is = absurd (cc)
 
 -- a test and one that is passed
 and-true : (test : Bool) → (test && true) ≡ test
@@ -60,12 +60,12 @@ plain-option : (kinds : List OptionKind) (first : List ℕ) (later rest : List (
     → after_option kinds first later ≡ Some rest
     → is_plain kinds (first ∷ bytes_of later) ≡ (is_new kinds first (bytes_of rest) && is_plain kinds (bytes_of rest))
 plain-option kinds first [] rest is =
-    let last = behind-last (is_flag kinds first) rest is in
+    let last = after-last (is_flag kinds first) rest is in
     ap (λ flag. flag && is_new kinds first []) last.0
     ∙ sym (and-true (is_new kinds first []))
     ∙ ap (λ left. is_new kinds first (bytes_of left) && is_plain kinds (bytes_of left)) last.1
 plain-option kinds first (next ∷ words) rest is =
-    behind-next (is_flag kinds first) (λ left. is_new kinds first (bytes_of left) && is_plain kinds (bytes_of left))
+    after-next (is_flag kinds first) (λ left. is_new kinds first (bytes_of left) && is_plain kinds (bytes_of left))
     next words rest is
 
 -- the same of the arguments that are left of a walk
@@ -90,12 +90,12 @@ value-option : (kinds : List OptionKind) (name first : List ℕ) (later rest : L
     → (bytes_eq first name && not (is_flag kinds first)) ≡ false
     → value_of kinds name (first ∷ bytes_of later) ≡ value_of kinds name (bytes_of rest)
 value-option kinds name first [] rest is other =
-    ap (λ left. value_of kinds name (bytes_of left)) (behind-last (is_flag kinds first) rest is).1
+    ap (λ left. value_of kinds name (bytes_of left)) (after-last (is_flag kinds first) rest is).1
 value-option kinds name first (next ∷ words) rest is other =
     skipped (is_flag kinds first) (bytes_eq first name) (value_of kinds name (bytes_of (next ∷ words)))
     (Some (string_bytes next))
     (value_of kinds name (bytes_of words)) other
-    ∙ behind-next (is_flag kinds first) (λ left. value_of kinds name (bytes_of left)) next words rest is
+    ∙ after-next (is_flag kinds first) (λ left. value_of kinds name (bytes_of left)) next words rest is
 
 -- the same of the arguments that are left of a walk
 pub value_of-option : (kinds : List OptionKind) (name : List ℕ) (words : List (String Global)) (first : String Global)

@@ -16,12 +16,12 @@ use Rattle.verdict_report.specs.Reading.{guarded, spelled, address_of, address_a
 use Rattle.verdict_report.proofs.Steps.{bind_some, guarded_some, same_some}
 
 -- an address of ten bytes, by the bytes that its digits spell
-pub address_is : (front bytes : List ℕ) (p : ℕ) (test : Bool) → decode_sized (take 8 (drop 2 front)) 4 ≡ Ok bytes
+pub address_is : (prefix bytes : List ℕ) (p : ℕ) (test : Bool) → decode_sized (take 8 (drop 2 prefix)) 4 ≡ Ok bytes
     → from_be_bytes w32 bytes ≡ p
-    → test ≡ bytes_eq (address_text p) front → address_of front ≡ guarded test p
+    → test ≡ bytes_eq (address_text p) prefix → address_of prefix ≡ guarded test p
 unfolding address_of
-address_is front bytes p test h is tested =
-    rw h (ap (λ (q : ℕ). guarded (bytes_eq (address_text q) front) q) is ∙ ap (λ (t : Bool). guarded t p) (sym tested))
+address_is prefix bytes p test h is tested =
+    rw h (ap (λ (q : ℕ). guarded (bytes_eq (address_text q) prefix) q) is ∙ ap (λ (t : Bool). guarded t p) (sym tested))
 
 -- digits that spell bytes
 spelled_some : (r : Result (List ℕ) FromHexError) (bytes : List ℕ) → spelled r ≡ Some bytes → r ≡ Ok bytes
@@ -33,17 +33,17 @@ from_be_bytes-small : (bytes : List ℕ) → IsBytes bytes → from_be_bytes w32
 from_be_bytes-small bytes fits = omega (arith, fits 0, fits 1, fits 2, fits 3)
 
 -- ten bytes that are read are the text of the address
-pub address_of_takes : (front : List ℕ) (p : ℕ) → address_of front ≡ Some p → (address_text p ≡ front) × (p < 2 ^ 32)
+pub address_of_takes : (prefix : List ℕ) (p : ℕ) → address_of prefix ≡ Some p → (address_text p ≡ prefix) × (p < 2 ^ 32)
 unfolding address_of
-address_of_takes front p h =
-    let b = bind_some (spelled (decode_sized (take 8 (drop 2 front)) 4)) _ p h in
-    let g = guarded_some (bytes_eq (address_text (from_be_bytes w32 b.0)) front) (from_be_bytes w32 b.0) p b.2 in
-    let r = spelled_some (decode_sized (take 8 (drop 2 front)) 4) b.0 b.1 in
-    let len = decode_sized-ok (take 8 (drop 2 front)) 4 b.0 r in
-    let fits = (decode_of-ok (take 8 (drop 2 front)) b.0 (sym (decode_sized-twice (take 8 (drop 2 front)) 4 len)
+address_of_takes prefix p h =
+    let b = bind_some (spelled (decode_sized (take 8 (drop 2 prefix)) 4)) _ p h in
+    let g = guarded_some (bytes_eq (address_text (from_be_bytes w32 b.0)) prefix) (from_be_bytes w32 b.0) p b.2 in
+    let r = spelled_some (decode_sized (take 8 (drop 2 prefix)) 4) b.0 b.1 in
+    let len = decode_sized-ok (take 8 (drop 2 prefix)) 4 b.0 r in
+    let fits = (decode_of-ok (take 8 (drop 2 prefix)) b.0 (sym (decode_sized-twice (take 8 (drop 2 prefix)) 4 len)
     ∙ r)).3 in
-    let is : address_text (from_be_bytes w32 b.0) ≡ front =
-    (bytes_eq-Decides (address_text (from_be_bytes w32 b.0)) front).0 g.0 in
+    let is : address_text (from_be_bytes w32 b.0) ≡ prefix =
+    (bytes_eq-Decides (address_text (from_be_bytes w32 b.0)) prefix).0 g.0 in
     (ap address_text (sym g.1) ∙ is, rw (← g.1) (from_be_bytes-small b.0 fits))
 
 -- the digits of an address are those of its bytes
@@ -75,11 +75,11 @@ address_takes text read h =
     rw (← e) (sym (take-append-drop 10 text) ∙ ap (λ (l : List ℕ). l ++ drop 10 text) (g.1 ∙ sym t.0), t.1)
 
 -- an address is read again, whatever follows
-pub address_again : (p : ℕ) (behind : List ℕ) → p < 2 ^ 32 → address_at (address_text p ++ behind) ≡ Some (p, behind)
+pub address_again : (p : ℕ) (rest : List ℕ) → p < 2 ^ 32 → address_at (address_text p ++ rest) ≡ Some (p, rest)
 unfolding address_at
-address_again p behind fits =
+address_again p rest fits =
     let ten = length-address_text p in
-    let long : nat_le 10 (length (address_text p ++ behind)) ≡ true =
-    le-leb 10 (length (address_text p ++ behind)) (omega (arith, length-append (address_text p) behind)) in
-    rw (long, take_at (address_text p) behind 10 ten, drop_at (address_text p) behind 10 ten, address_of_again p fits)
+    let long : nat_le 10 (length (address_text p ++ rest)) ≡ true =
+    le-leb 10 (length (address_text p ++ rest)) (omega (arith, length-append (address_text p) rest)) in
+    rw (long, take_at (address_text p) rest 10 ten, drop_at (address_text p) rest 10 ten, address_of_again p fits)
     refl

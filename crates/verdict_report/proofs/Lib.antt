@@ -1,5 +1,5 @@
 pub mod Steps
-pub mod Words
+pub mod FieldEnds
 pub mod Numbers
 pub mod Addresses
 pub mod Ways

@@ -13,7 +13,7 @@ use Rattle.verdict_report.specs.declared.seen.Subject.{Subject}
 use Rattle.verdict_report.specs.declared.seen.Subject.TheVariants.{Address, Configuration}
 use Rattle.report_spec.specs.HasText.{FitsVerdict, HasText, IsTextOf}
 use Rattle.verdict_report.specs.Seen.{line_with}
-use Rattle.verdict_report.specs.Reading.{after, address_at, said_at, subject_at, range_at, told_at, line_at, line_of}
+use Rattle.verdict_report.specs.Reading.{after, address_at, said_at, subject_at, range_at, verdict_line_at, line_at, line_of}
 use Rattle.verdict_report.proofs.Steps.{bind_some, guarded_some, or_some, same_some, onward, nothing, after_takes, after_again}
 use Rattle.verdict_report.proofs.Addresses.{address_takes, address_again}
 use Rattle.verdict_report.proofs.Said.{said_takes, said_again}
@@ -28,11 +28,11 @@ pub record IsLine (text : List ℕ) (read : Line × List ℕ) : Type 0 where
 
 -- the fields of a range, one after another
 abbrev range_parts : ℕ → ℕ → List ℕ → List ℕ
-range_parts first last behind = address_text first
-    ++ (codes "-" ++ (address_text last ++ (codes " unreachable\n" ++ behind)))
+range_parts first last rest = address_text first
+    ++ (codes "-" ++ (address_text last ++ (codes " unreachable\n" ++ rest)))
 
-regroup_range : (first last : ℕ) (behind : List ℕ) → range_text first last ++ behind ≡ range_parts first last behind
-regroup_range first last behind = simp append_assoc
+regroup_range : (first last : ℕ) (rest : List ℕ) → range_text first last ++ rest ≡ range_parts first last rest
+regroup_range first last rest = simp append_assoc
 
 range_takes : (text : List ℕ) (read : Line × List ℕ) → range_at text ≡ Some read → IsLine text read
 unfolding range_at
@@ -53,15 +53,15 @@ range_takes text read h =
           { fits = (f.1, l.1); valid = g.0 };
     })
 
-range_again : (first last : ℕ) (behind : List ℕ) → first < 2 ^ 32 → last < 2 ^ 32 → nat_le first last ≡ true
-    → range_at (range_text first last ++ behind) ≡ Some (Unreachable first last, behind)
+range_again : (first last : ℕ) (rest : List ℕ) → first < 2 ^ 32 → last < 2 ^ 32 → nat_le first last ≡ true
+    → range_at (range_text first last ++ rest) ≡ Some (Unreachable first last, rest)
 unfolding range_at
-range_again first last behind fits more valid =
-    let end = codes " unreachable\n" ++ behind in
-    ap range_at (regroup_range first last behind)
+range_again first last rest fits more valid =
+    let end = codes " unreachable\n" ++ rest in
+    ap range_at (regroup_range first last rest)
     ∙ rw (address_again first (codes "-" ++ (address_text last ++ end)) fits) (
     rw (after_again (codes "-") (address_text last ++ end)) (
-    rw (address_again last end more) (rw (after_again (codes " unreachable\n") behind) (rw valid refl))))
+    rw (address_again last end more) (rw (after_again (codes " unreachable\n") rest) (rw valid refl))))
 
 -- ---- lines with a verdict
 
@@ -79,9 +79,9 @@ HasText-line_with (Address at) verdict fits valid small right = record { fits = 
 HasText-line_with (Configuration node at depth back) verdict fits valid small right =
     record { fits = (fits.0, fits.1, fits.2, fits.3, small); valid = both_true valid right }
 
-told_takes : (text : List ℕ) (read : Line × List ℕ) → told_at text ≡ Some read → IsLine text read
-unfolding told_at
-told_takes text read h =
+verdict_line_takes : (text : List ℕ) (read : Line × List ℕ) → verdict_line_at text ≡ Some read → IsLine text read
+unfolding verdict_line_at
+verdict_line_takes text read h =
     let subject = bind_some (subject_at text) _ read h in
     let said = bind_some (said_at subject.0.1) _ read subject.2 in
     let e = same_some (line_with subject.0.0 said.0.0, said.0.1) read said.2 in
@@ -93,31 +93,31 @@ told_takes text read h =
     said.0.1) ∙ ap (λ (t : List ℕ). t ++ said.0.1) (sym written) in
     rw (← e) (record { is = whole; has_text = HasText-line_with subject.0.0 said.0.0 s.fits s.valid v.fits v.valid })
 
-told_again : (subject : Subject) (verdict : Verdict) (behind : List ℕ) → FitsSubject subject
+verdict_line_again : (subject : Subject) (verdict : Verdict) (rest : List ℕ) → FitsSubject subject
     → is_valid_subject subject ≡ true → FitsVerdict verdict → is_valid_verdict verdict ≡ true
-    → told_at ((subject_text subject ++ said_text verdict) ++ behind) ≡ Some (line_with subject verdict, behind)
-unfolding told_at
-told_again subject verdict behind fits valid small right =
-    ap told_at (append_assoc (subject_text subject) (said_text verdict) behind)
-    ∙ rw (subject_again subject (said_text verdict ++ behind) fits valid)
-    (rw (said_again verdict behind small right) refl)
+    → verdict_line_at ((subject_text subject ++ said_text verdict) ++ rest) ≡ Some (line_with subject verdict, rest)
+unfolding verdict_line_at
+verdict_line_again subject verdict rest fits valid small right =
+    ap verdict_line_at (append_assoc (subject_text subject) (said_text verdict) rest)
+    ∙ rw (subject_again subject (said_text verdict ++ rest) fits valid)
+    (rw (said_again verdict rest small right) refl)
 
 -- ---- all lines
 
 line_takes : (text : List ℕ) (read : Line × List ℕ) → line_at text ≡ Some read → IsLine text read
 unfolding line_at
-line_takes text read h = elim (or_some (range_at text) (told_at text) read h) [
+line_takes text read h = elim (or_some (range_at text) (verdict_line_at text) read h) [
   | inl range ↦ range_takes text read range
-  | inr told ↦ told_takes text read told
+  | inr reported ↦ verdict_line_takes text read reported
 ]
 
 -- a line by address is no range, for after its address stands no dash
-no_range_at : (at : ℕ) (verdict : Verdict) (behind : List ℕ) → at < 2 ^ 32
-    → range_at ((address_text at ++ said_text verdict) ++ behind) ≡ None
+no_range_at : (at : ℕ) (verdict : Verdict) (rest : List ℕ) → at < 2 ^ 32
+    → range_at ((address_text at ++ said_text verdict) ++ rest) ≡ None
 unfolding range_at after
-no_range_at at verdict behind fits =
-    ap range_at (append_assoc (address_text at) (said_text verdict) behind)
-    ∙ rw (address_again at (said_text verdict ++ behind) fits) refl
+no_range_at at verdict rest fits =
+    ap range_at (append_assoc (address_text at) (said_text verdict) rest)
+    ∙ rw (address_again at (said_text verdict ++ rest) fits) refl
 
 -- the text of a configuration begins with no address
 no_address : (text : List ℕ) → address_at (35 ∷ text) ≡ None
@@ -125,22 +125,23 @@ unfolding address_text
 no_address text = nothing (address_at (35 ∷ text)) (λ read h. cc (address_takes (35 ∷ text) read h).0)
 
 -- a configuration is no range
-no_range_context : (node at depth : ℕ) (back : Option ℕ) (verdict : Verdict) (behind : List ℕ)
-    → range_at ((context_text node at depth back ++ said_text verdict) ++ behind) ≡ None
+no_range_context : (node at depth : ℕ) (back : Option ℕ) (verdict : Verdict) (rest : List ℕ)
+    → range_at ((context_text node at depth back ++ said_text verdict) ++ rest) ≡ None
 unfolding range_at
-no_range_context node at depth back verdict behind = rw no_address refl
+no_range_context node at depth back verdict rest = rw no_address refl
 
-pub line_again : (line : Line) (behind : List ℕ) → HasText line
-    → line_at (line_text line ++ behind) ≡ Some (line, behind)
+pub line_again : (line : Line) (rest : List ℕ) → HasText line
+    → line_at (line_text line ++ rest) ≡ Some (line, rest)
 unfolding line_at
-line_again (At at verdict) behind h =
-    rw (no_range_at at verdict behind h.fits.0) (told_again (Address at) verdict behind h.fits.0 refl h.fits.1 h.valid)
-line_again (Context node at depth back verdict) behind h =
+line_again (At at verdict) rest h =
+    rw (no_range_at at verdict rest h.fits.0)
+    (verdict_line_again (Address at) verdict rest h.fits.0 refl h.fits.1 h.valid)
+line_again (Context node at depth back verdict) rest h =
     let parts = and_parts (has_back_as_deep depth back) (is_valid_verdict verdict) h.valid in
-    rw (no_range_context node at depth back verdict behind)
-    (told_again (Configuration node at depth back) verdict behind (h.fits.0, h.fits.1, h.fits.2, h.fits.3) parts.0
+    rw (no_range_context node at depth back verdict rest)
+    (verdict_line_again (Configuration node at depth back) verdict rest (h.fits.0, h.fits.1, h.fits.2, h.fits.3) parts.0
     h.fits.4 parts.1)
-line_again (Unreachable first last) behind h = rw (range_again first last behind h.fits.0 h.fits.1 h.valid) refl
+line_again (Unreachable first last) rest h = rw (range_again first last rest h.fits.0 h.fits.1 h.valid) refl
 
 -- a text that has a line is the text of this line
 line_of_takes : (text : List ℕ) (line : Line) → line_of text ≡ Some line → IsTextOf line text
@@ -179,8 +180,8 @@ same_read : (line other : Line) (more : List ℕ) → HasText line → HasText o
 same_read line other more h k is =
     let whole : line_at (line_text line) ≡ Some (line, []) =
     ap line_at (sym (append-nil (line_text line))) ∙ line_again line [] h in
-    let front : line_at (line_text line) ≡ Some (other, more) = ap line_at is ∙ line_again other more k in
-    let same = same_some (line, []) (other, more) (sym whole ∙ front) in
+    let prefix : line_at (line_text line) ≡ Some (other, more) = ap line_at is ∙ line_again other more k in
+    let same = same_some (line, []) (other, more) (sym whole ∙ prefix) in
     (ap (λ (read : Line × List ℕ). read.0) same, ap (λ (read : Line × List ℕ). read.1) (sym same))
 
 pub one_line_of_text : (line other : Line) → HasText line → HasText other → line_text line ≡ line_text other

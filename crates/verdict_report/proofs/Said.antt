@@ -9,7 +9,7 @@ use Rattle.report_spec.specs.declared.line.Verdict.TheVariants.{AlwaysHit, Alway
 use Rattle.report_spec.specs.Text.{way_text, verdict_text, said_text}
 use Rattle.report_spec.specs.Valid.{is_valid_way, is_valid_verdict}
 use Rattle.report_spec.specs.HasText.{FitsVerdict}
-use Rattle.verdict_report.specs.Reading.{told, after, way_at, unknown_at, verdict_at, said_at}
+use Rattle.verdict_report.specs.Reading.{with_rest, after, way_at, unknown_at, verdict_at, said_at}
 use Rattle.verdict_report.proofs.Steps.{bind_some, map_some, or_some, same_some, onward, onward_past, after_takes, after_again}
 use Rattle.verdict_report.proofs.Ways.{way_takes, way_again}
 
@@ -24,10 +24,10 @@ pub record IsSaid (written : Verdict → List ℕ) (text : List ℕ) (read : Ver
   pub valid : is_valid_verdict read.0 ≡ true
 
 -- the fields of both ways, one after another
-regroup_unknown : (hit miss : Way) (behind : List ℕ)
-    → ended_text (Unknown hit miss) ++ behind
-    ≡ codes "unknown hit " ++ (way_text hit ++ (32 ∷ (codes "miss " ++ (way_text miss ++ (10 ∷ behind)))))
-regroup_unknown hit miss behind = simp append_assoc
+regroup_unknown : (hit miss : Way) (rest : List ℕ)
+    → ended_text (Unknown hit miss) ++ rest
+    ≡ codes "unknown hit " ++ (way_text hit ++ (32 ∷ (codes "miss " ++ (way_text miss ++ (10 ∷ rest)))))
+regroup_unknown hit miss rest = simp append_assoc
 
 unknown_takes : (text : List ℕ) (read : Verdict × List ℕ) → unknown_at text ≡ Some read → IsSaid ended_text text read
 unfolding unknown_at
@@ -49,61 +49,61 @@ unknown_takes text read h =
       valid = both_true w.2 v.2;
     })
 
-unknown_again : (hit miss : Way) (behind : List ℕ) → FitsVerdict (Unknown hit miss)
+unknown_again : (hit miss : Way) (rest : List ℕ) → FitsVerdict (Unknown hit miss)
     → is_valid_verdict (Unknown hit miss) ≡ true
-    → unknown_at (ended_text (Unknown hit miss) ++ behind) ≡ Some (Unknown hit miss, behind)
+    → unknown_at (ended_text (Unknown hit miss) ++ rest) ≡ Some (Unknown hit miss, rest)
 unfolding unknown_at
-unknown_again hit miss behind fits valid =
+unknown_again hit miss rest fits valid =
     let parts = and_parts (is_valid_way hit) (is_valid_way miss) valid in
-    let last = way_text miss ++ (10 ∷ behind) in
-    ap unknown_at (regroup_unknown hit miss behind)
+    let last = way_text miss ++ (10 ∷ rest) in
+    ap unknown_at (regroup_unknown hit miss rest)
     ∙ rw (after_again (codes "unknown hit ") (way_text hit ++ (32 ∷ (codes "miss " ++ last)))) (
     rw (way_again 32 hit (codes "miss " ++ last) (omega arith) fits.0 parts.0) (
-    rw (after_again (codes "miss ") last) (rw (way_again 10 miss behind (omega arith) fits.1 parts.1) refl)))
+    rw (after_again (codes "miss ") last) (rw (way_again 10 miss rest (omega arith) fits.1 parts.1) refl)))
 
 -- a verdict that is a word alone
 plain_takes : (verdict : Verdict) (text : List ℕ) (read : Verdict × List ℕ) → FitsVerdict verdict
     → is_valid_verdict verdict ≡ true
-    → told verdict (after (ended_text verdict) text) ≡ Some read → IsSaid ended_text text read
+    → with_rest verdict (after (ended_text verdict) text) ≡ Some read → IsSaid ended_text text read
 plain_takes verdict text read fits valid h =
-    let behind = map_some (λ (l : List ℕ). (verdict, l)) (after (ended_text verdict) text) read h in
-    rw (← behind.2) (record {
-      is = after_takes (ended_text verdict) text behind.0 behind.1;
+    let rest = map_some (λ (l : List ℕ). (verdict, l)) (after (ended_text verdict) text) read h in
+    rw (← rest.2) (record {
+      is = after_takes (ended_text verdict) text rest.0 rest.1;
       fits = fits;
       valid = valid;
     })
 
 verdict_takes : (text : List ℕ) (read : Verdict × List ℕ) → verdict_at text ≡ Some read → IsSaid ended_text text read
 unfolding verdict_at
-verdict_takes text read h = elim (or_some (told AlwaysHit (after (codes "always-hit\n") text)) _ read h) [
+verdict_takes text read h = elim (or_some (with_rest AlwaysHit (after (codes "always-hit\n") text)) _ read h) [
   | inl hit ↦ plain_takes AlwaysHit text read tt refl hit
-  | inr other ↦ elim (or_some (told AlwaysMiss (after (codes "always-miss\n") text)) (unknown_at text) read other) [
+  | inr other ↦ elim (or_some (with_rest AlwaysMiss (after (codes "always-miss\n") text)) _ read other) [
     | inl miss ↦ plain_takes AlwaysMiss text read tt refl miss
     | inr unknown ↦ unknown_takes text read unknown
   ]
 ]
 
-verdict_again : (verdict : Verdict) (behind : List ℕ) → FitsVerdict verdict → is_valid_verdict verdict ≡ true
-    → verdict_at (ended_text verdict ++ behind) ≡ Some (verdict, behind)
+verdict_again : (verdict : Verdict) (rest : List ℕ) → FitsVerdict verdict → is_valid_verdict verdict ≡ true
+    → verdict_at (ended_text verdict ++ rest) ≡ Some (verdict, rest)
 unfolding verdict_at after
-verdict_again AlwaysHit behind fits valid = refl
-verdict_again AlwaysMiss behind fits valid = refl
-verdict_again (Unknown hit miss) behind fits valid = unknown_again hit miss behind fits valid
+verdict_again AlwaysHit rest fits valid = refl
+verdict_again AlwaysMiss rest fits valid = refl
+verdict_again (Unknown hit miss) rest fits valid = unknown_again hit miss rest fits valid
 
 pub said_takes : (text : List ℕ) (read : Verdict × List ℕ) → said_at text ≡ Some read → IsSaid said_text text read
 unfolding said_at
 said_takes text read h =
-    let behind = bind_some (after (codes " ") text) _ read h in
-    let v = verdict_takes behind.0 read behind.2 in
+    let rest = bind_some (after (codes " ") text) _ read h in
+    let v = verdict_takes rest.0 read rest.2 in
     record {
-      is = after_takes (codes " ") text behind.0 behind.1 ∙ ap (λ (l : List ℕ). codes " " ++ l) v.is;
+      is = after_takes (codes " ") text rest.0 rest.1 ∙ ap (λ (l : List ℕ). codes " " ++ l) v.is;
       fits =
           v.fits;
       valid = v.valid;
     }
 
-pub said_again : (verdict : Verdict) (behind : List ℕ) → FitsVerdict verdict → is_valid_verdict verdict ≡ true
-    → said_at (said_text verdict ++ behind) ≡ Some (verdict, behind)
+pub said_again : (verdict : Verdict) (rest : List ℕ) → FitsVerdict verdict → is_valid_verdict verdict ≡ true
+    → said_at (said_text verdict ++ rest) ≡ Some (verdict, rest)
 unfolding said_at
-said_again verdict behind fits valid =
-    rw (after_again (codes " ") (ended_text verdict ++ behind)) (verdict_again verdict behind fits valid)
+said_again verdict rest fits valid =
+    rw (after_again (codes " ") (ended_text verdict ++ rest)) (verdict_again verdict rest fits valid)

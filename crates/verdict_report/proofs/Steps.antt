@@ -35,29 +35,29 @@ pub same_some : {A : Type 0} (x y : A) → ◌≡◌ {A = Option A} (Some x) (So
 same_some x y h = cc
 
 -- a text in which something stands after these bytes begins with them
-pub after_takes : (front text behind : List ℕ) → after front text ≡ Some behind → text ≡ front ++ behind
+pub after_takes : (prefix text later : List ℕ) → after prefix text ≡ Some later → text ≡ prefix ++ later
 unfolding after
-after_takes front text behind h =
-    let g = guarded_some (bytes_eq (take (length front) text) front) (drop (length front) text) behind h in
-    let front-is : take (length front) text ≡ front = (bytes_eq-Decides (take (length front) text) front).0 g.0 in
-    rw (← g.1) (sym (take-append-drop (length front) text) ∙ ap (λ (l : List ℕ). l ++ drop (length front) text)
-    front-is)
+after_takes prefix text later h =
+    let g = guarded_some (bytes_eq (take (length prefix) text) prefix) (drop (length prefix) text) later h in
+    let prefix-is : take (length prefix) text ≡ prefix = (bytes_eq-Decides (take (length prefix) text) prefix).0 g.0 in
+    rw (← g.1) (sym (take-append-drop (length prefix) text) ∙ ap (λ (l : List ℕ). l ++ drop (length prefix) text)
+    prefix-is)
 
 -- what follows these bytes stands after them
-pub after_again : (front behind : List ℕ) → after front (front ++ behind) ≡ Some behind
+pub after_again : (prefix later : List ℕ) → after prefix (prefix ++ later) ≡ Some later
 unfolding after
-after_again front behind =
-    let same : bytes_eq front front ≡ true = (bytes_eq-Decides front front).1 refl in
-    rw (take_at front behind (length front) refl, drop_at front behind (length front) refl, same) refl
+after_again prefix later =
+    let same : bytes_eq prefix prefix ≡ true = (bytes_eq-Decides prefix prefix).1 refl in
+    rw (take_at prefix later (length prefix) refl, drop_at prefix later (length prefix) refl, same) refl
 
 -- what is known to stand after a field of a text
-pub onward : (front : List ℕ) {text a b : List ℕ} → text ≡ front ++ a → a ≡ b → text ≡ front ++ b
-onward front is same = is ∙ ap (λ (rest : List ℕ). front ++ rest) same
+pub onward : (prefix : List ℕ) {text a b : List ℕ} → text ≡ prefix ++ a → a ≡ b → text ≡ prefix ++ b
+onward prefix is same = is ∙ ap (λ (rest : List ℕ). prefix ++ rest) same
 
 -- the same after the byte at which the field ends
-pub onward_past : (front : List ℕ) (end : ℕ) {text a b : List ℕ} → text ≡ front ++ (end ∷ a) → a ≡ b
-    → text ≡ front ++ (end ∷ b)
-onward_past front end is same = is ∙ ap (λ (rest : List ℕ). front ++ (end ∷ rest)) same
+pub onward_past : (prefix : List ℕ) (end : ℕ) {text a b : List ℕ} → text ≡ prefix ++ (end ∷ a) → a ≡ b
+    → text ≡ prefix ++ (end ∷ b)
+onward_past prefix end is same = is ∙ ap (λ (rest : List ℕ). prefix ++ (end ∷ rest)) same
 
 -- what is said of the value of a result that has one, and of the error of one that hasn't
 pub given_ok : {A E : Type 0} (P : A → Type 0) (Q : E → Type 0) (r : Result A E) (x : A) → result_ok r ≡ Some x

@@ -14,12 +14,12 @@ use Rattle.verdict_report.proofs.Addresses.{address_takes, address_again}
 
 -- no return address, before what follows
 abbrev no_back : List ℕ → Option ℕ × List ℕ
-no_back behind = (None, behind)
+no_back rest = (None, rest)
 
 back_takes : (text : List ℕ) (read : Option ℕ × List ℕ) → back_at text ≡ Some read
     → (text ≡ back_text read.0 ++ read.1) × IfSome read.0 (λ p. p < 2 ^ 32)
 unfolding back_at
-back_takes text read h = elim (or_some (option_map (λ behind. (None, behind)) (after (codes "none") text)) _ read h) [
+back_takes text read h = elim (or_some (option_map (λ rest. (None, rest)) (after (codes "none") text)) _ read h) [
   | inl none ↦
       let m = map_some no_back (after (codes "none") text) read none in
       rw (← m.2) (after_takes (codes "none") text m.0 m.1, tt)
@@ -30,55 +30,55 @@ back_takes text read h = elim (or_some (option_map (λ behind. (None, behind)) (
 ]
 
 -- an address isn't `none`
-not_none : (p : ℕ) (behind : List ℕ) → after (codes "none") (address_text p ++ behind) ≡ None
+not_none : (p : ℕ) (rest : List ℕ) → after (codes "none") (address_text p ++ rest) ≡ None
 unfolding after address_text
-not_none p behind = refl
+not_none p rest = refl
 
-back_again : (back : Option ℕ) (behind : List ℕ) → IfSome back (λ p. p < 2 ^ 32)
-    → back_at (back_text back ++ behind) ≡ Some (back, behind)
+back_again : (back : Option ℕ) (rest : List ℕ) → IfSome back (λ p. p < 2 ^ 32)
+    → back_at (back_text back ++ rest) ≡ Some (back, rest)
 unfolding back_at
-back_again None behind fits = rw (after_again (codes "none") behind) refl
-back_again (Some p) behind fits = rw (not_none p behind, address_again p behind fits) refl
+back_again None rest fits = rw (after_again (codes "none") rest) refl
+back_again (Some p) rest fits = rw (not_none p rest, address_again p rest fits) refl
 
 -- ---- place and open calls
 
 -- the fields of a configuration's place, one after another
 abbrev place_parts : ℕ → ℕ → List ℕ → List ℕ
-place_parts node at behind = codes "#" ++ (decimal node ++ (32 ∷ (address_text at ++ behind)))
+place_parts node at rest = codes "#" ++ (decimal node ++ (32 ∷ (address_text at ++ rest)))
 
-regroup_place : (node at : ℕ) (behind : List ℕ) → place_text node at ++ behind ≡ place_parts node at behind
-regroup_place node at behind = simp append_assoc
+regroup_place : (node at : ℕ) (rest : List ℕ) → place_text node at ++ rest ≡ place_parts node at rest
+regroup_place node at rest = simp append_assoc
 
 place_takes : (text : List ℕ) (read : (ℕ × ℕ) × List ℕ) → place_at text ≡ Some read
     → (text ≡ place_text read.0.0 read.0.1 ++ read.1) × (read.0.0 < 2 ^ 32) × (read.0.1 < 2 ^ 32)
 unfolding place_at
 place_takes text read h =
-    let front = bind_some (after (codes "#") text) _ read h in
-    let node = bind_some (small_at front.0) _ read front.2 in
+    let prefix = bind_some (after (codes "#") text) _ read h in
+    let node = bind_some (small_at prefix.0) _ read prefix.2 in
     let at = bind_some (address_at node.0.1) _ read node.2 in
     let e = same_some ((node.0.0, at.0.0), at.0.1) read at.2 in
-    let f = after_takes (codes "#") text front.0 front.1 in
-    let n = small_takes front.0 node.0 node.1 in
+    let f = after_takes (codes "#") text prefix.0 prefix.1 in
+    let n = small_takes prefix.0 node.0 node.1 in
     let a = address_takes node.0.1 at.0 at.1 in
     let parts = onward (codes "#") f (onward_past (decimal node.0.0) 32 n.0 a.0) in
     rw (← e) (parts ∙ sym (regroup_place node.0.0 at.0.0 at.0.1), n.1, a.1)
 
-place_again : (node at : ℕ) (behind : List ℕ) → node < 2 ^ 32 → at < 2 ^ 32
-    → place_at (place_text node at ++ behind) ≡ Some ((node, at), behind)
+place_again : (node at : ℕ) (rest : List ℕ) → node < 2 ^ 32 → at < 2 ^ 32
+    → place_at (place_text node at ++ rest) ≡ Some ((node, at), rest)
 unfolding place_at
-place_again node at behind small fits =
-    ap place_at (regroup_place node at behind)
-    ∙ rw (after_again (codes "#") (decimal node ++ (32 ∷ (address_text at ++ behind)))) (
-    rw (small_again node (address_text at ++ behind) small) (rw (address_again at behind fits) refl))
+place_again node at rest small fits =
+    ap place_at (regroup_place node at rest)
+    ∙ rw (after_again (codes "#") (decimal node ++ (32 ∷ (address_text at ++ rest)))) (
+    rw (small_again node (address_text at ++ rest) small) (rw (address_again at rest fits) refl))
 
 -- the fields of its open calls, one after another
 abbrev calls_parts : ℕ → Option ℕ → List ℕ → List ℕ
-calls_parts depth back behind = codes " depth " ++ (decimal depth
-    ++ (32 ∷ (codes "back " ++ (back_text back ++ behind))))
+calls_parts depth back rest = codes " depth " ++ (decimal depth
+    ++ (32 ∷ (codes "back " ++ (back_text back ++ rest))))
 
-regroup_calls : (depth : ℕ) (back : Option ℕ) (behind : List ℕ)
-    → open_text depth back ++ behind ≡ calls_parts depth back behind
-regroup_calls depth back behind = simp append_assoc
+regroup_calls : (depth : ℕ) (back : Option ℕ) (rest : List ℕ)
+    → open_text depth back ++ rest ≡ calls_parts depth back rest
+regroup_calls depth back rest = simp append_assoc
 
 -- the text begins with these open calls
 pub record AreCalls (text : List ℕ) (read : (ℕ × Option ℕ) × List ℕ) : Type 0 where
@@ -108,15 +108,15 @@ calls_takes text read h =
           g.0;
     })
 
-calls_again : (depth : ℕ) (back : Option ℕ) (behind : List ℕ) → depth < 2 ^ 32 → IfSome back (λ p. p < 2 ^ 32)
+calls_again : (depth : ℕ) (back : Option ℕ) (rest : List ℕ) → depth < 2 ^ 32 → IfSome back (λ p. p < 2 ^ 32)
     → has_back_as_deep depth back ≡ true
-    → calls_at (open_text depth back ++ behind) ≡ Some ((depth, back), behind)
+    → calls_at (open_text depth back ++ rest) ≡ Some ((depth, back), rest)
 unfolding calls_at
-calls_again depth back behind small fits valid =
-    ap calls_at (regroup_calls depth back behind)
-    ∙ rw (after_again (codes " depth ") (decimal depth ++ (32 ∷ (codes "back " ++ (back_text back ++ behind))))) (
-    rw (small_again depth (codes "back " ++ (back_text back ++ behind)) small) (
-    rw (after_again (codes "back ") (back_text back ++ behind)) (rw (back_again back behind fits) (rw valid refl))))
+calls_again depth back rest small fits valid =
+    ap calls_at (regroup_calls depth back rest)
+    ∙ rw (after_again (codes " depth ") (decimal depth ++ (32 ∷ (codes "back " ++ (back_text back ++ rest))))) (
+    rw (small_again depth (codes "back " ++ (back_text back ++ rest)) small) (
+    rw (after_again (codes "back ") (back_text back ++ rest)) (rw (back_again back rest fits) (rw valid refl))))
 
 -- ---- subjects
 
@@ -158,9 +158,9 @@ configuration_takes text read h =
     })
 
 -- what begins with an address is no configuration
-no_configuration : (p : ℕ) (behind : List ℕ) → configuration_at (address_text p ++ behind) ≡ None
+no_configuration : (p : ℕ) (rest : List ℕ) → configuration_at (address_text p ++ rest) ≡ None
 unfolding configuration_at place_at after address_text
-no_configuration p behind = refl
+no_configuration p rest = refl
 
 pub subject_takes : (text : List ℕ) (read : Subject × List ℕ) → subject_at text ≡ Some read → IsSubject text read
 unfolding subject_at
@@ -172,12 +172,12 @@ subject_takes text read h = elim (or_some (configuration_at text) _ read h) [
       rw (← m.2) (record { is = a.0; fits = a.1; valid = refl })
 ]
 
-pub subject_again : (subject : Subject) (behind : List ℕ) → FitsSubject subject → is_valid_subject subject ≡ true
-    → subject_at (subject_text subject ++ behind) ≡ Some (subject, behind)
+pub subject_again : (subject : Subject) (rest : List ℕ) → FitsSubject subject → is_valid_subject subject ≡ true
+    → subject_at (subject_text subject ++ rest) ≡ Some (subject, rest)
 unfolding subject_at configuration_at
-subject_again (Address at) behind fits valid = rw (no_configuration at behind, address_again at behind fits) refl
-subject_again (Configuration node at depth back) behind fits valid =
-    let regrouped = append_assoc (place_text node at) (open_text depth back) behind in
+subject_again (Address at) rest fits valid = rw (no_configuration at rest, address_again at rest fits) refl
+subject_again (Configuration node at depth back) rest fits valid =
+    let regrouped = append_assoc (place_text node at) (open_text depth back) rest in
     ap subject_at regrouped
-    ∙ rw (place_again node at (open_text depth back ++ behind) fits.0 fits.1)
-    (rw (calls_again depth back behind fits.2 fits.3 valid) refl)
+    ∙ rw (place_again node at (open_text depth back ++ rest) fits.0 fits.1)
+    (rw (calls_again depth back rest fits.2 fits.3 valid) refl)

@@ -13,9 +13,9 @@ use Rattle.transition_spec.specs.declared.way.Way.{Way}
 use Rattle.report_spec.specs.Text.{choices_text, way_text}
 use Rattle.report_spec.specs.Valid.{is_letter, is_valid_way}
 use Rattle.report_spec.specs.HasText.{FitsWay}
-use Rattle.verdict_report.specs.Reading.{guarded, word_at, number_of, number_at, small_at, choices_of, way_at}
+use Rattle.verdict_report.specs.Reading.{guarded, field_at, number_of, number_at, small_at, choices_of, way_at}
 use Rattle.verdict_report.proofs.Steps.{bind_some, guarded_some, same_some, onward_past}
-use Rattle.verdict_report.proofs.Words.{is_free, word_takes, word_again}
+use Rattle.verdict_report.proofs.FieldEnds.{is_free, field_takes, field_again}
 use Rattle.verdict_report.proofs.Numbers.{number_some, number_takes}
 
 -- ---- numbers
@@ -38,17 +38,17 @@ pub number_at_takes : (text : List ℕ) (read : ℕ × List ℕ) → number_at t
     → (text ≡ decimal read.0 ++ (32 ∷ read.1)) × (read.0 < 2 ^ 64)
 unfolding number_at
 number_at_takes text read h =
-    let word = bind_some (word_at 32 text) _ read h in
-    let n = bind_some (number_of word.0.0) _ read word.2 in
-    let e = same_some (n.0, word.0.1) read n.2 in
-    let t = word_takes 32 text word.0 word.1 in
-    let d = number_takes word.0.0 n.0 n.1 in
-    rw (← e) (t ∙ ap (λ (digits : List ℕ). digits ++ (32 ∷ word.0.1)) d.0, d.1)
+    let field = bind_some (field_at 32 text) _ read h in
+    let n = bind_some (number_of field.0.0) _ read field.2 in
+    let e = same_some (n.0, field.0.1) read n.2 in
+    let t = field_takes 32 text field.0 field.1 in
+    let d = number_takes field.0.0 n.0 n.1 in
+    rw (← e) (t ∙ ap (λ (digits : List ℕ). digits ++ (32 ∷ field.0.1)) d.0, d.1)
 
-pub number_at_again : (n : ℕ) (behind : List ℕ) → n < 2 ^ 64 → number_at (decimal n ++ (32 ∷ behind)) ≡ Some (n, behind)
+pub number_at_again : (n : ℕ) (rest : List ℕ) → n < 2 ^ 64 → number_at (decimal n ++ (32 ∷ rest)) ≡ Some (n, rest)
 unfolding number_at
-number_at_again n behind fits =
-    rw (word_again 32 (decimal n) behind (decimal_free 32 n (omega arith) fits), number_some (decimal n) n fits refl)
+number_at_again n rest fits =
+    rw (field_again 32 (decimal n) rest (decimal_free 32 n (omega arith) fits), number_some (decimal n) n fits refl)
     refl
 
 pub small_takes : (text : List ℕ) (read : ℕ × List ℕ) → small_at text ≡ Some read
@@ -60,11 +60,11 @@ small_takes text read h =
     let t = number_at_takes text n.0 n.1 in
     rw (← g.1) (t.0, ltb-true n.0.0 (2 ^ 32) g.0)
 
-pub small_again : (n : ℕ) (behind : List ℕ) → n < 2 ^ 32 → small_at (decimal n ++ (32 ∷ behind)) ≡ Some (n, behind)
+pub small_again : (n : ℕ) (rest : List ℕ) → n < 2 ^ 32 → small_at (decimal n ++ (32 ∷ rest)) ≡ Some (n, rest)
 unfolding small_at
-small_again n behind fits =
+small_again n rest fits =
     let below : ltb n (2 ^ 32) ≡ true = lt-ltb n (2 ^ 32) fits in
-    rw (number_at_again n behind (omega arith)) (rw below refl)
+    rw (number_at_again n rest (omega arith)) (rw below refl)
 
 -- ---- choices
 
@@ -118,27 +118,27 @@ pub way_takes : (end : ℕ) (text : List ℕ) (read : Way × List ℕ) → way_a
 unfolding way_at
 way_takes end text read h =
     let steps = bind_some (number_at text) _ read h in
-    let letters = bind_some (word_at end steps.0.1) _ read steps.2 in
+    let letters = bind_some (field_at end steps.0.1) _ read steps.2 in
     let choices = bind_some (choices_of letters.0.0) _ read letters.2 in
     let made : Way = record { steps = steps.0.0; choices = choices.0 } in
     let g = guarded_some (ltb 0 steps.0.0) (made, letters.0.1) read choices.2 in
     let s = number_at_takes text steps.0 steps.1 in
-    let w = word_takes end steps.0.1 letters.0 letters.1 in
+    let w = field_takes end steps.0.1 letters.0 letters.1 in
     let c = choices_takes letters.0.0 choices.0 choices.1 in
-    let behind : steps.0.1 ≡ choices_text choices.0 ++ (end ∷ letters.0.1) =
+    let rest : steps.0.1 ≡ choices_text choices.0 ++ (end ∷ letters.0.1) =
     w ∙ ap (λ (l : List ℕ). l ++ (end ∷ letters.0.1)) c.0 in
     let regrouped = append_assoc (decimal steps.0.0) (32 ∷ choices_text choices.0) (end ∷ letters.0.1) in
-    rw (← g.1) (onward_past (decimal steps.0.0) 32 s.0 behind ∙ sym regrouped, s.1, both_true g.0 c.1)
+    rw (← g.1) (onward_past (decimal steps.0.0) 32 s.0 rest ∙ sym regrouped, s.1, both_true g.0 c.1)
 
-pub way_again : (end : ℕ) (way : Way) (behind : List ℕ) → end < 45 → FitsWay way → is_valid_way way ≡ true
-    → way_at end (way_text way ++ (end ∷ behind)) ≡ Some (way, behind)
+pub way_again : (end : ℕ) (way : Way) (rest : List ℕ) → end < 45 → FitsWay way → is_valid_way way ≡ true
+    → way_at end (way_text way ++ (end ∷ rest)) ≡ Some (way, rest)
 unfolding way_at
-way_again end way behind low fits valid =
+way_again end way rest low fits valid =
     let parts = and_parts (ltb 0 way.steps) (list_all is_letter way.choices) valid in
-    let regrouped : way_text way ++ (end ∷ behind) ≡ decimal way.steps
-    ++ (32 ∷ (choices_text way.choices ++ (end ∷ behind))) =
-    append_assoc (decimal way.steps) (32 ∷ choices_text way.choices) (end ∷ behind) in
+    let regrouped : way_text way ++ (end ∷ rest) ≡ decimal way.steps
+    ++ (32 ∷ (choices_text way.choices ++ (end ∷ rest))) =
+    append_assoc (decimal way.steps) (32 ∷ choices_text way.choices) (end ∷ rest) in
     ap (way_at end) regrouped
-    ∙ rw (number_at_again way.steps (choices_text way.choices ++ (end ∷ behind)) fits)
-    (rw (word_again end (choices_text way.choices) behind (choices_free end way.choices low parts.1))
+    ∙ rw (number_at_again way.steps (choices_text way.choices ++ (end ∷ rest)) fits)
+    (rw (field_again end (choices_text way.choices) rest (choices_free end way.choices low parts.1))
     (rw (choices_again way.choices parts.1) (rw parts.0 refl)))

@@ -39,13 +39,13 @@ Gives seen None read = read ≡ None
 
 -- what stands after these bytes
 unfoldable pub after : List ℕ → List ℕ → Option (List ℕ)
-after front text = guarded (bytes_eq (take (length front) text) front) (drop (length front) text)
+after prefix text = guarded (bytes_eq (take (length prefix) text) prefix) (drop (length prefix) text)
 
 -- the text before the first byte of this value, and the text after that byte
-unfoldable pub word_at : ℕ → List ℕ → Read (List ℕ)
-word_at end [] = None
-word_at end (byte ∷ text) = if byte == end then Some ([], text) else option_map (λ word. (byte ∷ word.0, word.1))
-    (word_at end text)
+unfoldable pub field_at : ℕ → List ℕ → Read (List ℕ)
+field_at end [] = None
+field_at end (byte ∷ text) = if byte == end then Some ([], text) else option_map (λ field. (byte ∷ field.0, field.1))
+    (field_at end text)
 
 -- the number that has this text
 unfoldable pub number_of : List ℕ → Option ℕ
@@ -55,9 +55,9 @@ number_of digits = guarded (nat_lt (digits_value 10 digits) (2 ^ 64) && bytes_eq
 -- a number and the space after it
 unfoldable pub number_at : List ℕ → Read ℕ
 number_at text = do
-  word ← word_at 32 text
-  n ← number_of word.0
-  Some (n, word.1)
+  field ← field_at 32 text
+  n ← number_of field.0
+  Some (n, field.1)
 
 -- a number below 2 ^ 32, and the space after it
 unfoldable pub small_at : List ℕ → Read ℕ
@@ -72,14 +72,14 @@ spelled (Err e) = None
 
 -- the address that has this text of ten bytes
 unfoldable pub address_of : List ℕ → Option ℕ
-address_of front = do
-  bytes ← spelled (decode_sized (take 8 (drop 2 front)) 4)
-  guarded (bytes_eq (address_text (from_be_bytes w32 bytes)) front) (from_be_bytes w32 bytes)
+address_of prefix = do
+  bytes ← spelled (decode_sized (take 8 (drop 2 prefix)) 4)
+  guarded (bytes_eq (address_text (from_be_bytes w32 bytes)) prefix) (from_be_bytes w32 bytes)
 
 unfoldable pub address_at : List ℕ → Read ℕ
 address_at text = do
-  front ← guarded (nat_le 10 (length text)) (take 10 text)
-  p ← address_of front
+  prefix ← guarded (nat_le 10 (length text)) (take 10 text)
+  p ← address_of prefix
   Some (p, drop 10 text)
 
 -- letters, or none for a dash
@@ -93,56 +93,56 @@ choices_of (letter ∷ letters) =
 unfoldable pub way_at : ℕ → List ℕ → Read Way
 way_at end text = do
   steps ← number_at text
-  letters ← word_at end steps.1
+  letters ← field_at end steps.1
   choices ← choices_of letters.0
   guarded (nat_lt 0 steps.0) (record { steps = steps.0; choices = choices }, letters.1)
 
 -- both ways, and the line end
 unfoldable pub unknown_at : List ℕ → Read Verdict
 unknown_at text = do
-  behind ← after (codes "unknown hit ") text
-  hit ← way_at 32 behind
-  behind ← after (codes "miss ") hit.1
-  miss ← way_at 10 behind
+  rest ← after (codes "unknown hit ") text
+  hit ← way_at 32 rest
+  rest ← after (codes "miss ") hit.1
+  miss ← way_at 10 rest
   Some (Unknown hit.0 miss.0, miss.1)
 
 -- this verdict, and what stands after it
-abbrev pub told : Verdict → Option (List ℕ) → Read Verdict
-told verdict behind = option_map (λ text. (verdict, text)) behind
+abbrev pub with_rest : Verdict → Option (List ℕ) → Read Verdict
+with_rest verdict rest = option_map (λ text. (verdict, text)) rest
 
 -- a verdict and the line end
 unfoldable pub verdict_at : List ℕ → Read Verdict
 verdict_at text =
-    option_or (told AlwaysHit (after (codes "always-hit\n") text))
-    (option_or (told AlwaysMiss (after (codes "always-miss\n") text)) (unknown_at text))
+    option_or (with_rest AlwaysHit (after (codes "always-hit\n") text))
+    (option_or (with_rest AlwaysMiss (after (codes "always-miss\n") text)) (unknown_at text))
 
 -- a space, a verdict and the line end
 unfoldable pub said_at : List ℕ → Read Verdict
 said_at text = do
-  behind ← after (codes " ") text
-  verdict_at behind
+  rest ← after (codes " ") text
+  verdict_at rest
 
 -- the newest return address, if there is one
 unfoldable pub back_at : List ℕ → Read (Option ℕ)
 back_at text =
-    option_or (option_map (λ behind. (None, behind)) (after (codes "none") text))
+    option_or (option_map (λ rest. (None, rest)) (after (codes "none") text))
     (option_map (λ p. (Some p.0, p.1)) (address_at text))
 
 -- the number of a configuration and its address
 unfoldable pub place_at : List ℕ → Read (ℕ × ℕ)
 place_at text = do
-  behind ← after (codes "#") text
-  node ← small_at behind
+  rest ← after (codes "#") text
+  node ← small_at rest
   at ← address_at node.1
   Some ((node.0, at.0), at.1)
 
 -- how many calls are open, and the newest return address
 unfoldable pub calls_at : List ℕ → Read (ℕ × Option ℕ)
 calls_at text = do
-  behind ← after (codes " depth ") text
-  depth ← small_at behind
-  behind ← after (codes "back ") depth.1
-  back ← back_at behind
+  rest ← after (codes " depth ") text
+  depth ← small_at rest
+  rest ← after (codes "back ") depth.1
+  back ← back_at rest
   guarded (has_back_as_deep depth.0 back.0) ((depth.0, back.0), back.1)
 
 -- a configuration's number, address and open calls
@@ -160,20 +160,20 @@ subject_at text = option_or (configuration_at text) (option_map (λ p. (Address 
 unfoldable pub range_at : List ℕ → Read Line
 range_at text = do
   first ← address_at text
-  behind ← after (codes "-") first.1
-  last ← address_at behind
-  behind ← after (codes " unreachable\n") last.1
-  guarded (nat_le first.0 last.0) (Unreachable first.0 last.0, behind)
+  rest ← after (codes "-") first.1
+  last ← address_at rest
+  rest ← after (codes " unreachable\n") last.1
+  guarded (nat_le first.0 last.0) (Unreachable first.0 last.0, rest)
 
 -- a line with a verdict, and the line end
-unfoldable pub told_at : List ℕ → Read Line
-told_at text = do
+unfoldable pub verdict_line_at : List ℕ → Read Line
+verdict_line_at text = do
   subject ← subject_at text
   said ← said_at subject.1
   Some (line_with subject.0 said.0, said.1)
 
 unfoldable pub line_at : List ℕ → Read Line
-line_at text = option_or (range_at text) (told_at text)
+line_at text = option_or (range_at text) (verdict_line_at text)
 
 -- the line that has this text
 unfoldable pub line_of : List ℕ → Option Line

@@ -2,7 +2,7 @@
 ghost use Rattle.std.specs.Prelude.{◌≡◌};
 ghost use Rattle.std.specs.List.{list_all};
 ghost use Rattle.report_spec.specs.Valid.{is_letter};
-ghost use Rattle.verdict_report.specs.Reading.{Gives, after, word_at, number_of, number_at, small_at, address_of, address_at, choices_of, back_at};
+ghost use Rattle.verdict_report.specs.Reading.{Gives, after, field_at, number_of, number_at, small_at, address_of, address_at, choices_of, back_at};
 
 use crate::address_text;
 use hex::FromHex;
@@ -11,15 +11,15 @@ use std::str;
 
 /// What stands after these bytes.
 #[tactic(auto, unfolding(crate::specs::Reading::after))]
-pub(crate) fn after<'a>(text: &'a [u8], front: &[u8]) -> Option<&'a [u8]>
-    ensures { Gives (λ behind. behind.now) result (after front.now text.now) }
+pub(crate) fn after<'a>(text: &'a [u8], prefix: &[u8]) -> Option<&'a [u8]>
+    ensures { Gives (λ rest. rest.now) result (after prefix.now text.now) }
 {
-    text.strip_prefix(front)
+    text.strip_prefix(prefix)
 }
 
 /// The text before the first byte of this value, and the text after that byte.
-pub(crate) fn word_at(text: &[u8], end: u8) -> Option<(&[u8], &[u8])>
-    ensures { Gives (λ word. (word.0.now, word.1.now)) result (word_at end text.now) }
+pub(crate) fn field_at(text: &[u8], end: u8) -> Option<(&[u8], &[u8])>
+    ensures { Gives (λ field. (field.0.now, field.1.now)) result (field_at end text.now) }
 {
     let at = text.iter().position(|byte| *byte == end)?;
     Some((&text[..at], &text[at + 1..]))
@@ -43,8 +43,8 @@ fn number_of(digits: &[u8]) -> Option<u64>
 pub(crate) fn number_at(text: &[u8]) -> Option<(u64, &[u8])>
     ensures { Gives (λ read. (read.0, read.1.now)) result (number_at text.now) }
 {
-    let (digits, behind) = word_at(text, b' ')?;
-    Some((number_of(digits)?, behind))
+    let (digits, rest) = field_at(text, b' ')?;
+    Some((number_of(digits)?, rest))
 }
 
 /// A number below 2 ^ 32, and the space after it.
@@ -52,17 +52,17 @@ pub(crate) fn number_at(text: &[u8]) -> Option<(u64, &[u8])>
 pub(crate) fn small_at(text: &[u8]) -> Option<(u32, &[u8])>
     ensures { Gives (λ read. (read.0, read.1.now)) result (small_at text.now) }
 {
-    let (n, behind) = number_at(text)?;
-    Some((u32::try_from(n).ok()?, behind))
+    let (n, rest) = number_at(text)?;
+    Some((u32::try_from(n).ok()?, rest))
 }
 
 /// The address that has this text.
 #[tactic(auto, unfolding(crate::specs::Reading::address_of))]
-fn address_of(front: &[u8; 10]) -> Option<u32>
-    ensures { result ≡ address_of front.now }
+fn address_of(prefix: &[u8; 10]) -> Option<u32>
+    ensures { result ≡ address_of prefix.now }
 {
-    let p = u32::from_be_bytes(<[u8; 4]>::from_hex(&front[2..]).ok()?);
-    if address_text(p) == *front {
+    let p = u32::from_be_bytes(<[u8; 4]>::from_hex(&prefix[2..]).ok()?);
+    if address_text(p) == *prefix {
         Some(p)
     } else {
         None
@@ -73,8 +73,8 @@ fn address_of(front: &[u8; 10]) -> Option<u32>
 pub(crate) fn address_at(text: &[u8]) -> Option<(u32, &[u8])>
     ensures { Gives (λ read. (read.0, read.1.now)) result (address_at text.now) }
 {
-    let (front, behind) = text.split_first_chunk::<10>()?;
-    Some((address_of(front)?, behind))
+    let (prefix, rest) = text.split_first_chunk::<10>()?;
+    Some((address_of(prefix)?, rest))
 }
 
 /// Letters, or none for a dash.
@@ -105,9 +105,9 @@ fn are_letters(letters: &[u8]) -> bool
 pub(crate) fn back_at(text: &[u8]) -> Option<(Option<u32>, &[u8])>
     ensures { Gives (λ read. (read.0, read.1.now)) result (back_at text.now) }
 {
-    if let Some(behind) = after(text, b"none") {
-        return Some((None, behind));
+    if let Some(rest) = after(text, b"none") {
+        return Some((None, rest));
     }
-    let (p, behind) = address_at(text)?;
-    Some((Some(p), behind))
+    let (p, rest) = address_at(text)?;
+    Some((Some(p), rest))
 }

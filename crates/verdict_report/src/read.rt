@@ -4,7 +4,7 @@ ghost use Rattle.report_spec.specs.HasText.{IsTextOf};
 ghost use Rattle.verdict_report.specs.Seen.{way_seen, verdict_seen, line_with};
 ghost use Rattle.verdict_report.specs.Reading.{Gives, way_at, unknown_at, verdict_at, said_at, configuration_at, subject_at, range_at, line_of};
 
-use crate::fields::{address_at, after, back_at, choices_of, number_at, small_at, word_at};
+use crate::fields::{address_at, after, back_at, choices_of, field_at, number_at, small_at};
 use crate::seen::{SeenVerdict, SeenWay, Subject};
 use crate::{Choices, Line, Verdict, Way};
 use std::alloc::{AllocError, Global};
@@ -16,20 +16,20 @@ pub fn read_line(alloc: Global, text: &[u8]) -> Result<Option<Line>, AllocError>
     line_of(alloc, text)
 }
 
-#[tactic(auto, unfolding(crate::specs::Reading::line_of, crate::specs::Reading::line_at, crate::specs::Reading::told_at))]
+#[tactic(auto, unfolding(crate::specs::Reading::line_of, crate::specs::Reading::line_at, crate::specs::Reading::verdict_line_at))]
 fn line_of(alloc: Global, text: &[u8]) -> Result<Option<Line>, AllocError>
     ensures { IfOk result (λ found. found ≡ line_of text.now) }
 {
-    if let Some((range, behind)) = range_at(text) {
-        return Ok(if behind.is_empty() { Some(range) } else { None });
+    if let Some((range, rest)) = range_at(text) {
+        return Ok(if rest.is_empty() { Some(range) } else { None });
     }
-    let Some((subject, behind)) = subject_at(text) else {
+    let Some((subject, rest)) = subject_at(text) else {
         return Ok(None);
     };
-    let Some((said, behind)) = said_at(behind) else {
+    let Some((said, rest)) = said_at(rest) else {
         return Ok(None);
     };
-    if !behind.is_empty() {
+    if !rest.is_empty() {
         return Ok(None);
     }
     let verdict = verdict_of(alloc, &said)?;
@@ -86,11 +86,11 @@ fn way_of(alloc: Global, way: &SeenWay) -> Result<Way, AllocError>
 fn range_at(text: &[u8]) -> Option<(Line, &[u8])>
     ensures { Gives (λ read. (read.0, read.1.now)) result (range_at text.now) }
 {
-    let (first, behind) = address_at(text)?;
-    let (last, behind) = address_at(after(behind, b"-")?)?;
-    let behind = after(behind, b" unreachable\n")?;
+    let (first, rest) = address_at(text)?;
+    let (last, rest) = address_at(after(rest, b"-")?)?;
+    let rest = after(rest, b" unreachable\n")?;
     if first <= last {
-        Some((Line::Unreachable { first, last }, behind))
+        Some((Line::Unreachable { first, last }, rest))
     } else {
         None
     }
@@ -104,8 +104,8 @@ fn subject_at(text: &[u8]) -> Option<(Subject, &[u8])>
     if let Some(configuration) = configuration_at(text) {
         return Some(configuration);
     }
-    let (at, behind) = address_at(text)?;
-    Some((Subject::Address { at }, behind))
+    let (at, rest) = address_at(text)?;
+    Some((Subject::Address { at }, rest))
 }
 
 /// A configuration's number, address and open calls.
@@ -113,10 +113,10 @@ fn subject_at(text: &[u8]) -> Option<(Subject, &[u8])>
 fn configuration_at(text: &[u8]) -> Option<(Subject, &[u8])>
     ensures { Gives (λ read. (read.0, read.1.now)) result (configuration_at text.now) }
 {
-    let (node, behind) = small_at(after(text, b"#")?)?;
-    let (at, behind) = address_at(behind)?;
-    let (depth, behind) = small_at(after(behind, b" depth ")?)?;
-    let (back, behind) = back_at(after(behind, b"back ")?)?;
+    let (node, rest) = small_at(after(text, b"#")?)?;
+    let (at, rest) = address_at(rest)?;
+    let (depth, rest) = small_at(after(rest, b" depth ")?)?;
+    let (back, rest) = back_at(after(rest, b"back ")?)?;
     if (depth == 0) != back.is_none() {
         return None;
     }
@@ -126,7 +126,7 @@ fn configuration_at(text: &[u8]) -> Option<(Subject, &[u8])>
         depth,
         back,
     };
-    Some((configuration, behind))
+    Some((configuration, rest))
 }
 
 /// A space, a verdict and the line end.
@@ -135,11 +135,11 @@ fn said_at(text: &[u8]) -> Option<(SeenVerdict<'_>, &[u8])>
     ensures { Gives (λ read. (verdict_seen read.0, read.1.now)) result (said_at text.now) }
 {
     let text = after(text, b" ")?;
-    if let Some(behind) = after(text, b"always-hit\n") {
-        return Some((SeenVerdict::AlwaysHit, behind));
+    if let Some(rest) = after(text, b"always-hit\n") {
+        return Some((SeenVerdict::AlwaysHit, rest));
     }
-    if let Some(behind) = after(text, b"always-miss\n") {
-        return Some((SeenVerdict::AlwaysMiss, behind));
+    if let Some(rest) = after(text, b"always-miss\n") {
+        return Some((SeenVerdict::AlwaysMiss, rest));
     }
     unknown_at(text)
 }
@@ -149,9 +149,9 @@ fn said_at(text: &[u8]) -> Option<(SeenVerdict<'_>, &[u8])>
 fn unknown_at(text: &[u8]) -> Option<(SeenVerdict<'_>, &[u8])>
     ensures { Gives (λ read. (verdict_seen read.0, read.1.now)) result (unknown_at text.now) }
 {
-    let (hit, behind) = way_at(after(text, b"unknown hit ")?, b' ')?;
-    let (miss, behind) = way_at(after(behind, b"miss ")?, b'\n')?;
-    Some((SeenVerdict::Unknown { hit, miss }, behind))
+    let (hit, rest) = way_at(after(text, b"unknown hit ")?, b' ')?;
+    let (miss, rest) = way_at(after(rest, b"miss ")?, b'\n')?;
+    Some((SeenVerdict::Unknown { hit, miss }, rest))
 }
 
 /// A way, and the byte at which it ends.
@@ -159,11 +159,11 @@ fn unknown_at(text: &[u8]) -> Option<(SeenVerdict<'_>, &[u8])>
 fn way_at(text: &[u8], end: u8) -> Option<(SeenWay<'_>, &[u8])>
     ensures { Gives (λ read. (way_seen read.0, read.1.now)) result (way_at end text.now) }
 {
-    let (steps, behind) = number_at(text)?;
-    let (letters, behind) = word_at(behind, end)?;
+    let (steps, rest) = number_at(text)?;
+    let (letters, rest) = field_at(rest, end)?;
     let choices = choices_of(letters)?;
     if steps > 0 {
-        Some((SeenWay { steps, choices }, behind))
+        Some((SeenWay { steps, choices }, rest))
     } else {
         None
     }

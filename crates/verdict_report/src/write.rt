@@ -56,12 +56,12 @@ fn push_range(into: &mut Vec<u8>, first: u32, last: u32) -> Result<(), AllocErro
 }
 
 /// An address, and what follows it.
-fn push_address(into: &mut Vec<u8>, p: u32, behind: &[u8]) -> Result<(), AllocError>
-    ensures ok { OnOk result (into.new.items ≡ into.old.items ++ (address_text p ++ behind.now)) }
+fn push_address(into: &mut Vec<u8>, p: u32, rest: &[u8]) -> Result<(), AllocError>
+    ensures ok { OnOk result (into.new.items ≡ into.old.items ++ (address_text p ++ rest.now)) }
     ensures err { OnErr result (Extends into.old.items into.new.items) }
 {
     into.extend_from_slice(&address_text(p))?;
-    into.extend_from_slice(behind)
+    into.extend_from_slice(rest)
 }
 
 /// A space, the verdict and the line end.

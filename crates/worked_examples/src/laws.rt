@@ -67,7 +67,7 @@ pub fn worked_texts()
 /// after an unknown line and between two: what stands after the first one can't be taken for its choices.
 pub fn worked_alikeness()
     ensures other_ways { AreAlikeTexts hit_between hit_by_other_ways }
-    ensures behind_unknown { AreAlikeTexts hit_after miss_after → ⊥ }
+    ensures after_unknown { AreAlikeTexts hit_after miss_after → ⊥ }
     ensures between_unknown { AreAlikeTexts hit_between miss_between → ⊥ }
 {}
 

@@ -33,7 +33,7 @@ fn programs_without_branches_are_classified(rt: HostRuntime) -> Result<(), Fail>
     let one = "0x00010000 always-miss\n";
     let two = "0x00010000 always-miss\n0x00010004 always-hit\n";
     let three = "0x00010000 always-miss\n0x00010004 always-hit\n0x00010008 always-hit\n";
-    let behind = "0x00010000 always-miss\n0x00010004-0x00010004 unreachable\n";
+    let later = "0x00010000 always-miss\n0x00010004-0x00010004 unreachable\n";
     let far = "0x00010000 always-miss\n0x00010004-0x0001000c unreachable\n";
     let passed_over =
         "0x00010000 always-miss\n0x00010004-0x00010004 unreachable\n0x00010008 always-miss\n";
@@ -46,7 +46,7 @@ fn programs_without_branches_are_classified(rt: HostRuntime) -> Result<(), Fail>
         (LEAST, &[0x100073], one),
         // A return with no call open.
         (LEAST, &[0x8067], one),
-        (LEAST, &[0x100073, 0x100073], behind),
+        (LEAST, &[0x100073, 0x100073], later),
         (LEAST, &[0x100073, 0, 1, 2], far),
         (SMALL, &[0x02a58533, 0x73, 0x30200073], three),
         (LEAST, &[0x0080006f, 0x100073, 0x100073], passed_over),

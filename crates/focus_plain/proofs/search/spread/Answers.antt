@@ -3,7 +3,7 @@ use Rattle.std.proofs.lemmas.Result.{on_ok_weaker}
 use Rattle.std.specs.Prelude.{OnOk}
 use Rattle.transition_spec.specs.Path.{IsSuccessor}
 use Rattle.path_model.specs.Graph.{IsGraph, graph_step}
-use Rattle.focus_plain.specs.Cut.{cut, behind}
+use Rattle.focus_plain.specs.Cut.{cut, cut_after}
 use Rattle.focus_plain.specs.Entries.{IsIndex, IsReachable, set_at, reached_set}
 use Rattle.focus_plain.proofs.Links.{entry_read, index-read}
 use Rattle.focus_plain.proofs.Spread.{node_inside, seen_small, value_from, first_stepped, AreStepped, both_stepped}
@@ -58,7 +58,7 @@ module _ (c : After-try_edge) where
 
   -- it is what the entry's node leaves
   value : reached_set c.args.search.now.sets.items c.moved-reached.result
-      ≡ behind c.args.view.now c.args.block c.index-entry.result.now.node
+      ≡ cut_after c.args.view.now c.args.block c.index-entry.result.now.node
       (set_at c.args.search.now.sets.items c.index-entry.result.now.younger)
   value =
       value_from c.args.view.now c.args.block c.index-entry.result.now.node c.deref.result.now

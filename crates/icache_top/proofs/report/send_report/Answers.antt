@@ -28,7 +28,8 @@ loop-cursor-init g c =
       lines = (
         [],
         λ rest all. all,
-        subst (λ (text : List ℕ). Pending begun begun buffer text) c.in_ok-buffer.ensures.items (Pending-start begun buffer),
+        subst (λ (text : List ℕ). Pending begun begun buffer text) c.in_ok-buffer.ensures.items
+            (Pending-start begun buffer),
       );
       faults = refl;
       refusals = refl;
@@ -38,7 +39,8 @@ loop-cursor-init g c =
 pub returns-in_err-cursor-clause-part : goal.returns-in_err-cursor-clause-part
 returns-in_err-cursor-clause-part g c =
     let found = c.args.found.now in
-    let Before = SentBefore g.O.Sink c.args.contexts found c.args.out.now c.loop-cursor.out c.loop-cursor.buffer.items in
+    let Before =
+    SentBefore g.O.Sink c.args.contexts found c.args.out.now c.loop-cursor.out c.loop-cursor.buffer.items in
     err_of c.from_residual-in_err-cursor.result
     (part_sent c.args.contexts found.image.now found.expanded.now found.verdicts.now c.requires _ _ _
     c.loop-cursor.buffer.items c.in-Some.from (subst Before c.in-Some.is c.loop-cursor.invariant.lines)
@@ -55,7 +57,8 @@ returns-in_err-cursor-clause-writes g c =
 pub loop-cursor-preserved : goal.loop-cursor-preserved
 loop-cursor-preserved g c =
     let found = c.args.found.now in
-    let Before = SentBefore g.O.Sink c.args.contexts found c.args.out.now c.loop-cursor.out c.loop-cursor.buffer.items in
+    let Before =
+    SentBefore g.O.Sink c.args.contexts found c.args.out.now c.loop-cursor.out c.loop-cursor.buffer.items in
     record {
       lines = sent_next (StandsIn c.args.contexts found) _ _ _ c.loop-cursor.buffer.items c.send_from.new.buffer.items
           c.in-Some.from c.in_ok-cursor.cursor (subst Before c.in-Some.is c.loop-cursor.invariant.lines)

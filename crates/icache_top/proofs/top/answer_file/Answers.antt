@@ -7,13 +7,13 @@ use Rattle.command_spec.specs.declared.settings.Ask.TheVariants.{Report, Graph}
 use Rattle.command_spec.specs.declared.settings.Settings.{Settings}
 use Rattle.top_words.specs.declared.status.Status.{Status}
 use Rattle.icache_top.specs.Answer.{SaysOfProgram, Tells, status_of}
-use Rattle.icache_top.proofs.Told.{elf_told, program_told}
+use Rattle.icache_top.proofs.SendsFor.{elf_reported, program_reported}
 use Rattle.icache_top.proofs.Within.{within}
 use Rattle.icache_top.proofs.top.answer_file.Goals as goal
 
-pub returns-in_err-image-clause-told : goal.returns-in_err-image-clause-told
-returns-in_err-image-clause-told g c =
-    elf_told c.args.settings.now c.args.file.items (g.O.Sink.sent c.args.out.now) c.in_err-image.field-0.0
+pub returns-in_err-image-clause-reported : goal.returns-in_err-image-clause-reported
+returns-in_err-image-clause-reported g c =
+    elf_reported c.args.settings.now c.args.file.items (g.O.Sink.sent c.args.out.now) c.in_err-image.field-0.0
     c.from_residual.result
     c.in_err-image.ensures.fault c.from_residual.ensures.1
 
@@ -29,17 +29,17 @@ says : (settings : Settings) (file : List ℕ) (image : Image) (own entry : ℕ)
     → image_of file ≡ Ok image → own ≡ image.entry → entry ≡ unwrap_or settings.entry own → settings.ask ≡ ask
     → SaysOfProgram ask image entry status old new → Tells settings file status old new
 says settings file image own entry ask status old new is same begins asked said =
-    program_told settings file image entry status old new is (begins ∙ ap (unwrap_or settings.entry) same)
+    program_reported settings file image entry status old new is (begins ∙ ap (unwrap_or settings.entry) same)
     (subst (λ (ask : Ask). SaysOfProgram ask image entry status old new) (sym asked) said)
 
-pub returns-in-Report-clause-told : goal.returns-in-Report-clause-told
-returns-in-Report-clause-told g c =
+pub returns-in-Report-clause-reported : goal.returns-in-Report-clause-reported
+returns-in-Report-clause-reported g c =
     says c.args.settings.now c.args.file.items c.in_ok-image.image c.entry.result c.unwrap_or-entry.result
     (Report c.in-Report.ask) (status_of c.classify.result) _ _ c.in_ok-image.ensures.image c.entry.ensures
-    c.unwrap_or-entry.ensures c.in-Report.is c.classify.ensures.told
+    c.unwrap_or-entry.ensures c.in-Report.is c.classify.ensures.reported
 
-pub returns-clause-told : goal.returns-clause-told
-returns-clause-told g c =
+pub returns-clause-reported : goal.returns-clause-reported
+returns-clause-reported g c =
     says c.args.settings.now c.args.file.items c.in_ok-image.image c.entry.result c.unwrap_or-entry.result
     Graph (status_of c.graph.result) _ _ c.in_ok-image.ensures.image c.entry.ensures
-    c.unwrap_or-entry.ensures c.in-Graph.is c.graph.ensures.told
+    c.unwrap_or-entry.ensures c.in-Graph.is c.graph.ensures.reported

@@ -4,25 +4,25 @@ use Rattle.std.specs.Io.KnownBytes.{Appends}
 use Rattle.byte_port.specs.Stream.{SendsPrefix}
 use Rattle.path_model.specs.declared.graph.Node.{Node}
 use Rattle.node_verdicts.specs.Verdicts.{IsFault}
-use Rattle.icache_top.proofs.Told.{flow_told, settled_told, sent_told, handed_on}
+use Rattle.icache_top.proofs.SendsFor.{flow_reported, settled_reported, sent_reported, handed_on}
 use Rattle.icache_top.proofs.Reported.{many, found_now, wanted_now, err_weaker}
 use Rattle.icache_top.proofs.top.classify.Goals as goal
 
-pub returns-in_err-expanded-clause-told : goal.returns-in_err-expanded-clause-told
-returns-in_err-expanded-clause-told g c =
-    flow_told _ _ _ (g.O.Sink.sent c.args.out.now) c.in_err-expanded.field-0.0 c.from_residual.result
+pub returns-in_err-expanded-clause-reported : goal.returns-in_err-expanded-clause-reported
+returns-in_err-expanded-clause-reported g c =
+    flow_reported _ _ _ (g.O.Sink.sent c.args.out.now) c.in_err-expanded.field-0.0 c.from_residual.result
     c.in_err-expanded.ensures.refused
     c.from_residual.ensures.1
 
-pub returns-in_err-verdicts-clause-told : goal.returns-in_err-verdicts-clause-told
-returns-in_err-verdicts-clause-told g c =
+pub returns-in_err-verdicts-clause-reported : goal.returns-in_err-verdicts-clause-reported
+returns-in_err-verdicts-clause-reported g c =
     let status = c.in_err-verdicts.field-0.0 in
     let ask = c.args.ask.now in
     let fault = subst (λ (nodes : List Node). IfErr c.node_verdicts.result (IsFault nodes ask.geometry))
     c.graph.ensures.same c.node_verdicts.ensures.fault in
     handed_on _ _ _ (g.O.Sink.sent c.args.out.now) status c.from_residual-in_err-verdicts.result
     c.from_residual-in_err-verdicts.ensures.1
-    (settled_told _ _ _ (g.O.Sink.sent c.args.out.now) c.node_verdicts.result status
+    (settled_reported _ _ _ (g.O.Sink.sent c.args.out.now) c.node_verdicts.result status
     (sym c.settled.ensures ∙ c.in_err-verdicts.was)
     (err_weaker _ _ (many c.args.image.now c.args.entry ask c.in_ok-expanded.expanded
     c.in_ok-expanded.ensures.accepted c.in_ok-expanded.ensures.graph) c.node_verdicts.result fault))
@@ -38,8 +38,8 @@ send_report-requires g c = (
       c.node_verdicts.ensures.one_each c.node_verdicts.ensures.right,
 )
 
-pub returns-in_err-send_report-clause-told : goal.returns-in_err-send_report-clause-told
-returns-in_err-send_report-clause-told g c =
+pub returns-in_err-send_report-clause-reported : goal.returns-in_err-send_report-clause-reported
+returns-in_err-send_report-clause-reported g c =
     let (text, is_wanted, part) = wanted_now c.args.image.now c.args.entry c.args.ask.now c.in_ok-expanded.expanded
     c.in_ok-expanded.ensures.accepted c.in_ok-expanded.ensures.graph (λ v. v.items) c.graph.result.now
     c.node_verdicts.result
@@ -48,11 +48,11 @@ returns-in_err-send_report-clause-told g c =
     c.requires c.node_verdicts.ensures.one_each c.node_verdicts.ensures.right c.node_verdicts.ensures.few
     (SendsPrefix (g.O.Sink.sent c.args.out.now) (g.O.Sink.sent c.send_report.new.out))
     c.in_err-send_report.ensures.part in
-    sent_told _ _ _ _ _ text c.in_err-send_report.field-0.0 c.from_residual-in_err-send_report.result is_wanted part
+    sent_reported _ _ _ _ _ text c.in_err-send_report.field-0.0 c.from_residual-in_err-send_report.result is_wanted part
     c.from_residual-in_err-send_report.ensures.1
 
-pub returns-clause-told : goal.returns-clause-told
-returns-clause-told g c =
+pub returns-clause-reported : goal.returns-clause-reported
+returns-clause-reported g c =
     wanted_now c.args.image.now c.args.entry c.args.ask.now c.in_ok-expanded.expanded c.in_ok-expanded.ensures.accepted
     c.in_ok-expanded.ensures.graph (λ v. v.items) c.graph.result.now c.node_verdicts.result c.in_ok-verdicts.verdicts
     c.deref.result.now

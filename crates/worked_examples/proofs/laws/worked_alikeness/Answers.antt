@@ -12,13 +12,13 @@ use Rattle.one_answer.proofs.Readings.{lines_alike}
 use Rattle.worked_examples.specs.Alike.{lines_after, lines_between, lines_by_other_ways, hit_after, miss_after, hit_between, miss_between, hit_by_other_ways}
 use Rattle.worked_examples.proofs.laws.worked_alikeness.Goals as goal
 
-hit_behind_is : hit_after ≡ text_of (lines_after AlwaysHit)
+hit_after_is : hit_after ≡ text_of (lines_after AlwaysHit)
 unfolding address_text encode_with digits
-hit_behind_is = refl
+hit_after_is = refl
 
-miss_behind_is : miss_after ≡ text_of (lines_after AlwaysMiss)
+miss_after_is : miss_after ≡ text_of (lines_after AlwaysMiss)
 unfolding address_text encode_with digits
-miss_behind_is = refl
+miss_after_is = refl
 
 hit_between_is : hit_between ≡ text_of (lines_between AlwaysHit)
 unfolding address_text encode_with digits
@@ -33,9 +33,9 @@ unfolding address_text encode_with digits
 by_other_ways_is = refl
 
 -- the lines have a text, where the verdict has one
-behind_have : (verdict : Verdict) → FitsVerdict verdict → is_valid_verdict verdict ≡ true
+after_have : (verdict : Verdict) → FitsVerdict verdict → is_valid_verdict verdict ≡ true
     → AllByRecursion HasText (lines_after verdict)
-behind_have verdict fits valid = (
+after_have verdict fits valid = (
   record { fits = (lit< tt, (lit< tt, lit< tt)); valid = refl },
   (record { fits = (lit< tt, fits); valid = valid }, tt),
 )
@@ -43,17 +43,17 @@ behind_have verdict fits valid = (
 between_have : (verdict : Verdict) → FitsVerdict verdict → is_valid_verdict verdict ≡ true
     → AllByRecursion HasText (lines_between verdict)
 between_have verdict fits valid =
-    let behind = behind_have verdict fits valid in
-    (behind.0, (behind.1.0, (record { fits = (lit< tt, (lit< tt, lit< tt)); valid = refl }, tt)))
+    let later = after_have verdict fits valid in
+    (later.0, (later.1.0, (record { fits = (lit< tt, (lit< tt, lit< tt)); valid = refl }, tt)))
 
 pub returns-clause-other_ways : goal.returns-clause-other_ways
 returns-clause-other_ways c =
     (lines_between AlwaysHit, lines_by_other_ways, (refl, hit_between_is), (refl, by_other_ways_is), refl)
 
-pub returns-clause-behind_unknown : goal.returns-clause-behind_unknown
-returns-clause-behind_unknown c = λ alike.
-    let same = lines_alike (lines_after AlwaysHit) (lines_after AlwaysMiss) (behind_have AlwaysHit tt refl)
-    (behind_have AlwaysMiss tt refl) (rw (← hit_behind_is, ← miss_behind_is) alike) in
+pub returns-clause-after_unknown : goal.returns-clause-after_unknown
+returns-clause-after_unknown c = λ alike.
+    let same = lines_alike (lines_after AlwaysHit) (lines_after AlwaysMiss) (after_have AlwaysHit tt refl)
+    (after_have AlwaysMiss tt refl) (rw (← hit_after_is, ← miss_after_is) alike) in
     cc same
 
 pub returns-clause-between_unknown : goal.returns-clause-between_unknown

@@ -20,9 +20,9 @@ returns-in-Some c =
     let xs = c.self.inside.segments.items in
     let first = c.ended_by-first.result in
     let P : List Segment → Type 0 = λ l. AllWithin (λ s. s.at + s.size ≤ c.args.p) l 0 first in
-    let behind = take_rest c.deref-2.result.now first ∙ ap (λ l. drop first l) c.deref-2.ensures.value in
+    let later = take_rest c.deref-2.result.now first ∙ ap (λ l. drop first l) c.deref-2.ensures.value in
     let found = next_found xs _ c.args.p first c.loop-segment.segment-index c.in-Some.word d c.self.invariant.rising
-    (subst P c.deref.ensures.value c.ended_by-first.ensures.ended) behind c.loop-segment-test.true
+    (subst P c.deref.ensures.value c.ended_by-first.ensures.ended) later c.loop-segment-test.true
     c.loop-segment.invariant c.in-Some.ensures in
     let Q : List Segment → Type 0 = λ l. IsNextAmong l c.args.p (Some c.in-Some.word) in
     next_text c.args.self.now c.args.p (Some c.in-Some.word)
@@ -33,9 +33,9 @@ returns c =
     let xs = c.self.inside.segments.items in
     let first = c.ended_by-first.result in
     let P : List Segment → Type 0 = λ l. AllWithin (λ s. s.at + s.size ≤ c.args.p) l 0 first in
-    let behind = take_rest c.deref-2.result.now first ∙ ap (λ l. drop first l) c.deref-2.ensures.value in
+    let later = take_rest c.deref-2.result.now first ∙ ap (λ l. drop first l) c.deref-2.ensures.value in
     let nowhere = next_nowhere xs _ c.args.p first c.loop-segment.segment-index
-    (subst P c.deref.ensures.value c.ended_by-first.ensures.ended) behind c.loop-segment-test.false
+    (subst P c.deref.ensures.value c.ended_by-first.ensures.ended) later c.loop-segment-test.false
     c.loop-segment.invariant in
     let Q : List Segment → Type 0 = λ l. IsNextAmong l c.args.p None in
     next_text c.args.self.now c.args.p None (subst Q (ap (λ (i : Image). i.segments) c.self.view_is) nowhere)

@@ -1,5 +1,5 @@
 use Rattle.report_plan.proofs.Bare.{node-bare, none-where}
-use Rattle.report_plan.proofs.range.bare_behind.Goals as goal
+use Rattle.report_plan.proofs.range.bare_after.Goals as goal
 
 pub returns-clause-none : goal.returns-clause-none
 returns-clause-none c =
