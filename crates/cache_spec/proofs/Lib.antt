@@ -1,1 +1,4 @@
 pub mod Distinct
+pub mod Others
+pub mod Stack
+pub mod Starts

@@ -2,6 +2,8 @@
 -- Commands, names, defaults and ranges are this project's own.
 use Rattle.std.specs.Prelude.{ℕ, List, [], ◌∷◌, Option, Some, None, option_map, option_and_then, codes, bytes_eq, if◌then◌else◌}
 use Rattle.cache_spec.specs.Geometry.{Geometry, is_in_range}
+use Rattle.cache_spec.specs.declared.start.Start.{Start}
+use Rattle.cache_spec.specs.declared.start.Start.TheVariants.{Empty, Any}
 use Rattle.command_spec.specs.declared.settings.Ask.{Ask}
 use Rattle.command_spec.specs.declared.settings.Ask.TheVariants.{Report, Graph}
 use Rattle.command_spec.specs.declared.settings.Command.{Command}
@@ -18,6 +20,7 @@ options_of commands.Classify =
     ∷ valued (codes "--sets")
     ∷ valued (codes "--ways")
     ∷ valued (codes "--entry")
+    ∷ valued (codes "--start")
     ∷ flag (codes "--contexts")
     ∷ []
 options_of commands.Graph = valued (codes "--entry") ∷ []
@@ -56,18 +59,30 @@ address_if (Some text) = option_map Some (address_of text)
 abbrev pub entry_in : Command → List (List ℕ) → Option (Option ℕ)
 entry_in command arguments = address_if (value_of (options_of command) (codes "--entry") arguments)
 
--- a report of a cache of this geometry, with contexts where the arguments have the flag
-abbrev pub report_as : List (List ℕ) → Geometry → Ask
-report_as arguments geometry =
+-- what a value says that the cache starts with; without one it starts empty
+abbrev pub start_of : Option (List ℕ) → Option Start
+start_of None = Some Empty
+start_of (Some text) =
+    if bytes_eq text (codes "empty") then Some Empty else if bytes_eq text (codes "any") then Some Any else None
+
+-- what the arguments say that it starts with
+abbrev pub start_in : List (List ℕ) → Option Start
+start_in arguments = start_of (value_of (options_of commands.Classify) (codes "--start") arguments)
+
+-- a report of a cache of this geometry and start, with contexts where the arguments have the flag
+abbrev pub report_as : List (List ℕ) → Geometry → Start → Ask
+report_as arguments geometry start =
     Report (record {
       geometry = geometry;
+      start = start;
       contexts = has_option (options_of commands.Classify) (codes "--contexts")
           arguments;
     })
 
 -- the report that the arguments of `classify` ask for
 abbrev pub report_in : List (List ℕ) → Option Ask
-report_in arguments = option_map (report_as arguments) (geometry_in arguments)
+report_in arguments =
+    option_and_then (λ geometry. option_map (report_as arguments geometry) (start_in arguments)) (geometry_in arguments)
 
 -- what the command asks for
 abbrev pub ask_in : Command → List (List ℕ) → Option Ask

@@ -3,6 +3,7 @@ ghost use Rattle.command_spec.specs.Plain.{takes_value};
 ghost use Rattle.command_spec.specs.Settings.{options_of};
 
 use cache_geom::Geometry;
+use cache_spec::Start;
 
 /// What the arguments of a command line ask for.
 #[derive(Clone, Copy, Debug, PartialEq, Eq)]
@@ -21,10 +22,12 @@ pub enum Ask {
     Graph,
 }
 
-/// Which report is asked for: of a cache of this shape, by address, or with a line for each configuration.
+/// Which report is asked for: of a cache of this shape that starts so, by address, or with a line for each
+/// configuration.
 #[derive(Clone, Copy, Debug, PartialEq, Eq)]
 pub struct ReportAsk {
     pub geometry: Geometry,
+    pub start: Start,
     pub contexts: bool,
 }
 
@@ -42,7 +45,7 @@ impl Command {
     {
         match (self, option) {
             (_, "--entry") => Some(true),
-            (Command::Classify, "--line" | "--sets" | "--ways") => Some(true),
+            (Command::Classify, "--line" | "--sets" | "--ways" | "--start") => Some(true),
             (Command::Classify, "--contexts") => Some(false),
             _ => None,
         }

@@ -3,14 +3,15 @@ use Rattle.std.proofs.Common.{◌≡◌, ℕ, zero, suc, ◌+◌, ◌<◌, ◌�
 use Rattle.std.proofs.lemmas.Bool.{cases_eq}
 use Rattle.std.proofs.lemmas.List.{get_or_append_left, get_or_push, length_push, length-append}
 use Rattle.std.specs.Prelude.{slice_get}
+use Rattle.cache_spec.specs.declared.start.Start.{Start}
 use Rattle.transition_spec.specs.Path.{IsPath, IsSuccessor}
 use Rattle.path_model.specs.Graph.{graph_step}
 use Rattle.path_trail.specs.Trail.{TrailEntry, node_of, earlier_of, node_at, earlier_at, IsChain, LeadsOn, IsTrail}
 use Rattle.set_view.specs.View.{View}
-use Rattle.focus_plain.specs.Cut.{IsBelow, left_by, cut_after}
-use Rattle.focus_plain.specs.Entries.{seen_at, IsSound, IsCourse, IsBetween, IsSpread}
+use Rattle.focus_plain.specs.Cut.{IsBelow, IsFirst, left_by, cut_after}
+use Rattle.focus_plain.specs.Entries.{seen_at, IsSound, BeginsWith, IsCourse, IsBetween, IsSpread}
 use Rattle.focus_plain.specs.Search.{IsLonger}
-use Rattle.focus_plain.proofs.Order.{IsRising, below_trans, below_refl, cut_after-below, left_by-rising, left_by-more}
+use Rattle.focus_plain.proofs.Order.{IsRising, below_trans, below_refl, cut_after-below, first-rising, left_by-rising, left_by-more}
 
 -- an element of the first list
 pub slice_get-prefix : {X : Type 0} (xs ys : List X) (k : ℕ) → k < length xs → slice_get (xs ++ ys) k ≡ slice_get xs k
@@ -33,7 +34,7 @@ earlier_at-prefix : (trail more : List TrailEntry) (k : ℕ) → k < length trai
     → earlier_at (trail ++ more) k ≡ earlier_at trail k
 earlier_at-prefix trail more k inside = ap earlier_of (slice_get-prefix trail more k inside)
 
-module _ (view : View) (block : ℕ) where
+module _ (view : View) (start : Start) (block : ℕ) where
   -- what leads on to a node leads on to it still
   leads-prefix : (trail more : List TrailEntry) (number : ℕ) (before : Option ℕ) (node : ℕ) → number < length trail
       → LeadsOn view.nodes trail number before node
@@ -66,7 +67,7 @@ module _ (view : View) (block : ℕ) where
   -- a sound entry stays so
   sound-prefix : (trail more : List TrailEntry) (number : ℕ) (younger : Option (List ℕ)) → IsTrail view.nodes trail
       → number < length trail
-      → IsSound view block trail number younger → IsSound view block (trail ++ more) number younger
+      → IsSound view start block trail number younger → IsSound view start block (trail ++ more) number younger
   sound-prefix trail more number younger is inside sound =
       let members : List ℕ = sound.0 in (
         members,
@@ -79,7 +80,7 @@ module _ (view : View) (block : ℕ) where
         sound.2,
       )
 
-  module _ (trail : List TrailEntry) (seen : List (Option (List ℕ))) (course : IsCourse view block trail seen)
+  module _ (trail : List TrailEntry) (seen : List (Option (List ℕ))) (course : IsCourse view start block trail seen)
       (from to : ℕ) (from_inside : from < length trail)
       (edge : IsSuccessor (graph_step view.nodes) (node_at trail from) to) where
     -- the trail with the new entry
@@ -122,7 +123,7 @@ module _ (view : View) (block : ℕ) where
     ]
 
     -- the new entry is sound
-    sound_new : IsSound view block further (length trail) younger
+    sound_new : IsSound view start block further (length trail) younger
     unfolding sound-prefix
     sound_new =
         let before = course.sound from from_inside in
@@ -133,32 +134,42 @@ module _ (view : View) (block : ℕ) where
         (sym (node_at-prefix trail _ from from_inside), kept.1.1) in (
           members,
           (refl, subst (λ (o : Option ℕ). IsChain further o members) (sym (ap earlier_of new_is)) whole),
-          left_by-more view block (node_at trail from) before.0
-              ∙ ap (cut_after view block (node_at trail from)) before.2,
+          (
+            before.2.0,
+            before.2.1,
+            left_by-more view block (node_at trail from) before.2.0 before.0 (first-rising start before.2.0 before.2.1)
+                ∙ ap (cut_after view block (node_at trail from)) before.2.2,
+          ),
         )
 
     -- each entry is sound
     sound_further : (number : ℕ) → number < length further
-        → IsSound view block further number (seen_at (seen ++ younger ∷ []) number)
+        → IsSound view start block further number (seen_at (seen ++ younger ∷ []) number)
     sound_further number inside = elim (old_or_new number inside) [
       | inl old ↦
-          subst (IsSound view block further number) (sym (get_or_append_left seen (younger ∷ []) None number
+          subst (IsSound view start block further number) (sym (get_or_append_left seen (younger ∷ []) None number
           (omega (arith, course.one_each))))
           (sound-prefix trail _ number (seen_at seen number) course.follows old (course.sound number old))
       | inr new ↦
-          subst (IsSound view block further number) (sym (get_or_push seen younger None number
+          subst (IsSound view start block further number) (sym (get_or_push seen younger None number
           (course.one_each ∙ sym new)))
-          (subst (λ (k : ℕ). IsSound view block further k younger) (sym new) sound_new)
+          (subst (λ (k : ℕ). IsSound view start block further k younger) (sym new) sound_new)
     ]
 
+    -- what the entries begin with stays
+    begins_further : (set : Option (List ℕ)) → BeginsWith trail seen set → BeginsWith further (seen ++ younger ∷ []) set
+    begins_further set (number, inside, at, is) = (
+      number,
+      omega (arith, inside, length_push trail (record { node = to; earlier = Some from })),
+      node_at-prefix trail _ number inside ∙ at,
+      get_or_append_left seen (younger ∷ []) None number (omega (arith, course.one_each, inside)) ∙ is,
+    )
+
     -- the course goes on
-    pub course_more : IsCourse view block further (seen ++ younger ∷ [])
+    pub course_more : IsCourse view start block further (seen ++ younger ∷ [])
     course_more = record {
       one_each = length_push seen younger ∙ ap (λ n. n + 1) course.one_each ∙ sym (length_push trail _);
-      some = omega (arith, course.some, length_push trail (record { node = to; earlier = Some from }));
-      first_node = node_at-prefix trail _ 0 course.some ∙ course.first_node;
-      first_seen = get_or_append_left seen (younger ∷ []) None 0 (omega (arith, course.one_each, course.some))
-          ∙ course.first_seen;
+      begun = λ first is. begins_further (left_by view block first []) (course.begun first is);
       follows = trail_further;
       sound = sound_further;
     }
@@ -216,29 +227,37 @@ between_kept trail trail' seen seen' n younger one_each longer seen_longer betwe
         ∙ get_or_append_left seen seen_longer.0 None k (omega (arith, inside, one_each))
 
 -- a sound entry's set rises
-seen-rising : (view : View) (block : ℕ) (trail : List TrailEntry) (seen : List (Option (List ℕ))) (number : ℕ)
-    → IsCourse view block trail seen → number < length trail
-    → IsRising (seen_at seen number)
-seen-rising view block trail seen number course inside =
-    let sound = course.sound number inside in
-    subst IsRising sound.2 (left_by-rising view block sound.0)
+seen-rising : (view : View) (start : Start) (block : ℕ) (trail : List TrailEntry) (seen : List (Option (List ℕ)))
+    (number : ℕ) → IsCourse view start block trail seen → number < length trail → IsRising (seen_at seen number)
+seen-rising view start block trail seen number course inside =
+    let (earlier, chain, (first, is, left)) = course.sound number inside in
+    subst IsRising left (left_by-rising view block first earlier (first-rising start first is))
 
 -- once all entries are spread, what each path leaves lies between entries at its last node
-pub paths_between : (view : View) (block : ℕ) (trail : List TrailEntry) (seen : List (Option (List ℕ)))
-    → IsCourse view block trail seen
-    → IsSpread view block trail seen (length trail) → (earlier : List ℕ) (n : ℕ)
-    → IsPath (graph_step view.nodes) 0 (n ∷ earlier)
-    → IsBetween trail seen n (left_by view block earlier)
-paths_between view block trail seen course spread [] n path = record {
-  below = (0, course.some, course.first_node ∙ sym path, tt);
-  above = (0, course.some, course.first_node ∙ sym path, subst (IsBelow None) (sym course.first_seen) tt);
-}
-paths_between view block trail seen course spread (c ∷ earlier) n path =
-    let before = paths_between view block trail seen course spread earlier c path.1 in
+pub paths_between : (view : View) (start : Start) (block : ℕ) (trail : List TrailEntry)
+    (seen : List (Option (List ℕ))) → IsCourse view start block trail seen
+    → IsSpread view block trail seen (length trail) → (first : Option (List ℕ)) → IsFirst start first
+    → (earlier : List ℕ) (n : ℕ) → IsPath (graph_step view.nodes) 0 (n ∷ earlier)
+    → IsBetween trail seen n (left_by view block first earlier)
+paths_between view start block trail seen course spread first is [] n path =
+    let (number, inside, at, seen_is) = course.begun first is in
+    let left : Option (List ℕ) = left_by view block first [] in
+    record {
+      below = (
+        number,
+        inside,
+        at ∙ sym path,
+        subst (λ (o : Option (List ℕ)). IsBelow o left) (sym seen_is) (below_refl left),
+      );
+      above = (number, inside, at ∙ sym path, subst (IsBelow left) (sym seen_is) (below_refl left));
+    }
+paths_between view start block trail seen course spread first is (c ∷ earlier) n path =
+    let before = paths_between view start block trail seen course spread first is earlier c path.1 in
     let low = before.below in
     let high = before.above in
-    let left : Option (List ℕ) = left_by view block earlier in
-    let rising = left_by-rising view block earlier in
+    let left : Option (List ℕ) = left_by view block first earlier in
+    let first_rising = first-rising start first is in
+    let rising = left_by-rising view block first earlier first_rising in
     let low_next = spread low.0 n low.1 (subst (λ (k : ℕ). IsSuccessor (graph_step view.nodes) k n) (sym low.2)
     path.0) in
     let high_next = spread high.0 n high.1 (subst (λ (k : ℕ). IsSuccessor (graph_step view.nodes) k n) (sym high.2)
@@ -247,16 +266,16 @@ paths_between view block trail seen course spread (c ∷ earlier) n path =
     IsBelow (cut_after view block (node_at trail low.0) (seen_at seen low.0)) (cut_after view block c left) =
     subst (λ (k : ℕ). IsBelow (cut_after view block k (seen_at seen low.0)) (cut_after view block c left)) (sym low.2)
     (cut_after-below view block c (seen_at seen low.0) left
-    (seen-rising view block trail seen low.0 course low.1) rising
+    (seen-rising view start block trail seen low.0 course low.1) rising
     low.3) in
     let high_moved : IsBelow (cut_after view block c left) (cut_after view block (node_at trail high.0)
     (seen_at seen high.0)) =
     subst (λ (k : ℕ). IsBelow (cut_after view block c left) (cut_after view block k (seen_at seen high.0))) (sym high.2)
     (cut_after-below view block c left (seen_at seen high.0) rising
-    (seen-rising view block trail seen high.0 course high.1) high.3) in
+    (seen-rising view start block trail seen high.0 course high.1) high.3) in
     let last = low_next.below in
     let top = high_next.above in
-    subst (IsBetween trail seen n) (sym (left_by-more view block c earlier)) (record {
+    subst (IsBetween trail seen n) (sym (left_by-more view block c first earlier first_rising)) (record {
       below = (
         last.0,
         last.1,

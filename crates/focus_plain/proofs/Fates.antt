@@ -1,27 +1,26 @@
 -- What the entries that were noted say of all paths.
-use Rattle.std.proofs.Common.{◌≡◌, ℕ, zero, suc, ◌<◌, inl, inr, Bool, true, false, List, [], ◌∷◌, length, map, Option, Some, None, refl, sym, ap, subst, ◌∙◌, arith}
-use Rattle.std.proofs.lemmas.Bool.{cases_Bool}
+use Rattle.std.proofs.Common.{◌≡◌, ◌↔◌, ℕ, zero, suc, ◌<◌, IsTrue, IsFalse, inl, inr, Bool, true, false, List, [], ◌∷◌, length, Option, Some, None, refl, sym, ap, subst, ◌∙◌, arith}
 use Rattle.std.proofs.lemmas.Option.{none-some}
 use Rattle.std.specs.Option.{is_some}
 use Rattle.std.specs.Prelude.{slice_get, not}
 use Rattle.transition_spec.specs.declared.way.Way.{Way}
 use Rattle.transition_spec.specs.Path.{IsPath}
 use Rattle.transition_spec.specs.Named.{Names}
-use Rattle.cache_spec.specs.Contents.{ends_in_hit}
+use Rattle.cache_spec.specs.declared.start.Start.{Start}
 use Rattle.path_model.specs.declared.graph.Node.{Node}
-use Rattle.path_model.specs.Graph.{graph_step, address_of}
-use Rattle.path_trail.specs.Trail.{TrailEntry, earlier_at, IsChain}
+use Rattle.path_model.specs.Graph.{graph_step}
+use Rattle.path_trail.specs.Trail.{TrailEntry, node_at, earlier_at, IsChain}
 use Rattle.path_trail.specs.Ways.{IsWayOf}
-use Rattle.focus_spec.specs.Younger.{is_small, fetch_at}
-use Rattle.focus_spec.specs.Focus.{younger_after}
-use Rattle.focus_spec.specs.Fate.{AllEnd, NamesEnd}
+use Rattle.focus_spec.specs.Younger.{first_warm, is_small, fetch_at}
+use Rattle.focus_spec.specs.Focus.{younger_after, warm_after}
+use Rattle.focus_spec.specs.Fate.{PathCanEnd, AllEnd, NamesEnd}
 use Rattle.set_view.specs.View.{View}
 use Rattle.focus_plain.specs.declared.search.Entry.{Entry}
 use Rattle.focus_plain.specs.declared.ends.Found.{Found}
-use Rattle.focus_plain.specs.Cut.{IsBelow, left_by}
+use Rattle.focus_plain.specs.Cut.{IsBelow, IsFirst, left_by}
 use Rattle.focus_plain.specs.Entries.{set_at, trail_of, seen_of, seen_at, latest_at, index_of, IsBetween, IsSpread}
 use Rattle.focus_plain.specs.Ends.{IsFound, ends_of}
-use Rattle.focus_plain.proofs.Order.{small-cut}
+use Rattle.focus_plain.proofs.Order.{first-rising, left_by-below, small-cut}
 use Rattle.focus_plain.proofs.Course.{paths_between}
 use Rattle.focus_plain.proofs.Links.{length-trail}
 
@@ -63,12 +62,15 @@ below_some one None below some = absurd (cc)
 below_some None (Some two) below some = absurd below
 below_some (Some one) (Some two) below some = refl
 
--- a path that ends in a node which fetches the block hits where the block's younger set is small
-abbrev pub HitsWhereSmall : View → ℕ → Type 0
-HitsWhereSmall view block = (n : ℕ) (earlier : List ℕ) → IsPath (graph_step view.nodes) 0 (n ∷ earlier)
+-- what a path that ends in a fetch of the block can do: hit where its warm set is small, and miss where its younger set
+-- isn't
+abbrev pub EndsBySets : View → Start → ℕ → Type 0
+EndsBySets view start block = (n : ℕ) (earlier : List ℕ) → IsPath (graph_step view.nodes) 0 (n ∷ earlier)
     → fetch_at view.fetches n ≡ Some block
-    → ends_in_hit view.geometry (map (address_of view.nodes) (n ∷ earlier))
-    ≡ is_small view.geometry.ways (younger_after view.fetches block earlier)
+    → (PathCanEnd view.nodes view.geometry start (n ∷ earlier) true
+    ↔ IsTrue (is_small view.geometry.ways (warm_after view.fetches start block earlier)))
+    × (PathCanEnd view.nodes view.geometry start (n ∷ earlier) false
+    ↔ IsFalse (is_small view.geometry.ways (younger_after view.fetches block earlier)))
 
 -- a noted entry is one of the trail's
 pub noted_inside : (view : View) (found : Found) (hits : Bool) (n number : ℕ) → IsFound view found
@@ -77,7 +79,7 @@ noted_inside view found hits n number is noted =
     let at = (is.ends hits).sound n number noted in
     omega (arith, at.0, length-trail found.search.entries.items)
 
-module _ (view : View) (found : Found) (is : IsFound view found) (law : HitsWhereSmall view found.block) (n : ℕ)
+module _ (view : View) (found : Found) (is : IsFound view found) (law : EndsBySets view found.start found.block) (n : ℕ)
     (fetches : fetch_at view.fetches n ≡ Some found.block) where
   -- the entries
   abbrev entries : List Entry
@@ -87,12 +89,55 @@ module _ (view : View) (found : Found) (is : IsFound view found) (law : HitsWher
   abbrev seen : List (Option (List ℕ))
   seen = seen_of found.search.sets.items found.search.entries.items
 
-  -- a path hits where what it leaves is there
-  hit-left : (earlier : List ℕ) → IsPath (graph_step view.nodes) 0 (n ∷ earlier)
-      → ends_in_hit view.geometry (map (address_of view.nodes) (n ∷ earlier))
-      ≡ is_some (left_by view found.block earlier)
-  hit-left earlier path =
-      law n earlier path fetches ∙ small-cut view.geometry.ways (younger_after view.fetches found.block earlier)
+  -- what a path leaves from a set that is there before the first fetch
+  abbrev left_from : Option (List ℕ) → List ℕ → Option (List ℕ)
+  left_from = left_by view found.block
+
+  -- a path to the node can end so
+  abbrev Can : List ℕ → Bool → Type 0
+  Can earlier hits = PathCanEnd view.nodes view.geometry found.start (n ∷ earlier) hits
+
+  -- from the warm set it leaves what lies below what it leaves from none
+  warm_below : (earlier : List ℕ) → IsBelow (left_from (first_warm found.start) earlier) (left_from None earlier)
+  warm_below earlier =
+      left_by-below view found.block (first_warm found.start) earlier
+      (first-rising found.start (first_warm found.start) (inr refl))
+
+  -- a path that leaves a small set can hit, and one that leaves none can miss
+  can_end : (hits : Bool) (earlier : List ℕ) (first : Option (List ℕ)) → IsPath (graph_step view.nodes) 0 (n ∷ earlier)
+      → IsFirst found.start first → is_some (left_from first earlier) ≡ hits → Can earlier hits
+  can_end true earlier first path begins some =
+      let warm : is_some (left_from (first_warm found.start) earlier) ≡ true = elim begins [
+        | inl none ↦ below_some _ _ (warm_below earlier)
+            (ap (λ (o : Option (List ℕ)). is_some (left_from o earlier)) (sym none) ∙ some)
+        | inr warm ↦ ap (λ (o : Option (List ℕ)). is_some (left_from o earlier)) (sym warm) ∙ some
+      ] in
+      (law n earlier path fetches).0.1
+      (small-cut view.geometry.ways (warm_after view.fetches found.start found.block earlier) ∙ warm)
+  can_end false earlier first path begins large =
+      let none : is_some (left_from None earlier) ≡ false = elim begins [
+        | inl none ↦ ap (λ (o : Option (List ℕ)). is_some (left_from o earlier)) (sym none) ∙ large
+        | inr warm ↦ above_none _ _ (warm_below earlier)
+            (ap (λ (o : Option (List ℕ)). is_some (left_from o earlier)) (sym warm) ∙ large)
+      ] in
+      (law n earlier path fetches).1.1
+      (small-cut view.geometry.ways (younger_after view.fetches found.block earlier) ∙ none)
+
+  -- a path that can end so leaves a small set, or none
+  left_there : (hits : Bool) (earlier : List ℕ) → IsPath (graph_step view.nodes) 0 (n ∷ earlier) → Can earlier hits
+      → (first : Option (List ℕ)) × IsFirst found.start first × (is_some (left_from first earlier) ≡ hits)
+  left_there true earlier path can = (
+    first_warm found.start,
+    inr refl,
+    sym (small-cut view.geometry.ways (warm_after view.fetches found.start found.block earlier))
+        ∙ (law n earlier path fetches).0.0 can,
+  )
+  left_there false earlier path can = (
+    None,
+    inl refl,
+    sym (small-cut view.geometry.ways (younger_after view.fetches found.block earlier))
+        ∙ (law n earlier path fetches).1.0 can,
+  )
 
   -- an entry has seen a set where it has an index
   seen-there : (number : ℕ) → is_some (seen_at seen number) ≡ is_some (index_of (slice_get entries number))
@@ -101,24 +146,45 @@ module _ (view : View) (found : Found) (is : IsFound view found) (law : HitsWher
       ∙ is_some-set_at found.search.sets.items (index_of (slice_get entries number))
 
   -- what each path to the node leaves lies between what two entries there have seen
-  between : (earlier : List ℕ) → IsPath (graph_step view.nodes) 0 (n ∷ earlier)
-      → IsBetween (trail_of entries) seen n (left_by view found.block earlier)
-  between earlier path =
+  between : (first : Option (List ℕ)) → IsFirst found.start first → (earlier : List ℕ)
+      → IsPath (graph_step view.nodes) 0 (n ∷ earlier) → IsBetween (trail_of entries) seen n (left_from first earlier)
+  between first begins earlier path =
       let all : IsSpread view found.block (trail_of entries) seen (length (trail_of entries)) =
       subst (λ (k : ℕ). IsSpread view found.block (trail_of entries) seen k) (sym (length-trail entries)) is.spread in
-      paths_between view found.block (trail_of entries) seen is.search.course all earlier n path
+      paths_between view found.start found.block (trail_of entries) seen is.search.course all first begins earlier n
+      path
 
-  -- the way of an entry for a hit names a path to the node that hits, and that of an entry for a miss one that misses
+  -- where a path to the node leaves a small set, so has an entry there; and where one leaves none, an entry has none
+  entry_there : (hits : Bool) (first : Option (List ℕ)) → IsFirst found.start first → (earlier : List ℕ)
+      → IsPath (graph_step view.nodes) 0 (n ∷ earlier) → is_some (left_from first earlier) ≡ hits
+      → (number : ℕ) × (number < length entries) × (node_at (trail_of entries) number ≡ n)
+      × (is_some (index_of (slice_get entries number)) ≡ hits)
+  entry_there true first begins earlier path some =
+      let (number, inside, at, below) = (between first begins earlier path).below in (
+        number,
+        omega (arith, inside, length-trail entries),
+        at,
+        sym (seen-there number) ∙ below_some (seen_at seen number) (left_from first earlier) below some,
+      )
+  entry_there false first begins earlier path none =
+      let (number, inside, at, above) = (between first begins earlier path).above in (
+        number,
+        omega (arith, inside, length-trail entries),
+        at,
+        sym (seen-there number) ∙ above_none (left_from first earlier) (seen_at seen number) above none,
+      )
+
+  -- the way of an entry for a hit names a path to the node that can hit, and that of one for a miss one that can miss
   pub noted_way : (hits : Bool) (nodes : List Node) (number : ℕ) (way : Way)
       → latest_at (ends_of found hits) n ≡ Some number → nodes ≡ view.nodes
-      → IsWayOf nodes (trail_of entries) number way → NamesEnd view.nodes view.geometry n way hits
+      → IsWayOf nodes (trail_of entries) number way → NamesEnd view.nodes view.geometry found.start n way hits
   noted_way hits nodes number way noted same is_way =
       let at = (is.ends hits).sound n number noted in
       let way_is = subst (λ (nodes : List Node). IsWayOf nodes (trail_of entries) number way) same is_way in
-      let sound = is.search.course.sound number (omega (arith, at.0, length-trail entries)) in
-      let earlier : List ℕ = sound.0 in
+      let (earlier, chain, (first, begins, left)) =
+      is.search.course.sound number (omega (arith, at.0, length-trail entries)) in
       let members : way_is.members ≡ n ∷ earlier =
-      chain_unique (trail_of entries) way_is.members _ (Some number) way_is.chain sound.1
+      chain_unique (trail_of entries) way_is.members _ (Some number) way_is.chain chain
       ∙ ap (λ (m : ℕ). m ∷ earlier) at.1 in
       let path = subst (λ (xs : List ℕ). IsPath (graph_step view.nodes) 0 xs) members way_is.path in
       let named = subst (λ (xs : List ℕ). Names (graph_step view.nodes) way xs) members way_is.named in
@@ -126,37 +192,19 @@ module _ (view : View) (found : Found) (is : IsFound view found) (law : HitsWher
         earlier = earlier;
         is_path = path;
         names = named;
-        fate = hit-left earlier path ∙ ap is_some sound.2 ∙ seen-there number ∙ at.2;
+        fate = can_end hits earlier first path begins (ap is_some left ∙ seen-there number ∙ at.2);
       }
 
-  -- where no entry with a small younger set is noted, no path hits
-  none_small : latest_at found.hits.items n ≡ None → AllEnd view.nodes view.geometry n false
-  none_small none earlier path =
-      let low = (between earlier path).below in
-      let inside : low.0 < length entries = omega (arith, low.1, length-trail entries) in
-      hit-left earlier path ∙ elim (cases_Bool (is_some (index_of (slice_get entries low.0)))) [
-        | inl small ↦
-            let there = (is.ends true).complete low.0 inside small in
-            absurd (none-some there.0 (sym none ∙ sym (ap (latest_at found.hits.items) low.2) ∙ there.1))
-        | inr large ↦
-            above_none (seen_at seen low.0) (left_by view found.block earlier) low.3 (seen-there low.0 ∙ large)
-      ]
+  -- where no entry is noted for a hit, no path can hit, and where none is for a miss, none can miss
+  none_ends : (hits : Bool) → latest_at (ends_of found hits) n ≡ None → (earlier : List ℕ)
+      → IsPath (graph_step view.nodes) 0 (n ∷ earlier) → Can earlier hits → ⊥
+  none_ends hits none earlier path can =
+      let (first, begins, left) = left_there hits earlier path can in
+      let (number, inside, at, has) = entry_there hits first begins earlier path left in
+      let there = (is.ends hits).complete number inside has in
+      none-some there.0 (sym none ∙ sym (ap (latest_at (ends_of found hits)) at) ∙ there.1)
 
-  -- where no entry without one is noted, each path hits
-  none_large : latest_at found.misses.items n ≡ None → AllEnd view.nodes view.geometry n true
-  none_large none earlier path =
-      let high = (between earlier path).above in
-      let inside : high.0 < length entries = omega (arith, high.1, length-trail entries) in
-      hit-left earlier path ∙ elim (cases_Bool (is_some (index_of (slice_get entries high.0)))) [
-        | inl small ↦
-            below_some (left_by view found.block earlier) (seen_at seen high.0) high.3 (seen-there high.0 ∙ small)
-        | inr large ↦
-            let there = (is.ends false).complete high.0 inside large in
-            absurd (none-some there.0 (sym none ∙ sym (ap (latest_at found.misses.items) high.2) ∙ there.1))
-      ]
-
-  -- where no entry is noted for a hit, each path misses, and where none is for a miss, each hits
   pub none_noted : (hits : Bool) → latest_at (ends_of found hits) n ≡ None
-      → AllEnd view.nodes view.geometry n (not hits)
-  none_noted true = none_small
-  none_noted false = none_large
+      → AllEnd view.nodes view.geometry found.start n (not hits)
+  none_noted true none = none_ends true none
+  none_noted false none = none_ends false none

@@ -4,6 +4,7 @@ use Rattle.std.proofs.lemmas.Bool.{cases_eq}
 use Rattle.std.proofs.lemmas.List.{get_or-set_same, get_or-set_other, length-set, length_push, map-append, append-nil}
 use Rattle.std.proofs.lemmas.Option.{slice_get_within, same_Some}
 use Rattle.std.specs.Prelude.{slice_get, slice_set}
+use Rattle.cache_spec.specs.declared.start.Start.{Start}
 use Rattle.transition_spec.specs.Path.{IsSuccessor}
 use Rattle.path_model.specs.Graph.{graph_step}
 use Rattle.path_trail.specs.Trail.{TrailEntry, node_of, node_at}
@@ -29,7 +30,7 @@ seen_of-longer sets new (entry ∷ entries) longer indices =
     seen_of-longer sets new entries longer (λ number inside. indices (suc number) (omega arith)) in
     cc
 
-module _ (view : View) (block : ℕ) (old new : Search) (is : IsSearch view block old) (from to : ℕ)
+module _ (view : View) (start : Start) (block : ℕ) (old new : Search) (is : IsSearch view start block old) (from to : ℕ)
     (from_inside : from < length old.entries.items)
     (edge : IsSuccessor (graph_step view.nodes) (node_at (trail_of old.entries.items) from) to)
     (to_inside : to < length old.latest.items)
@@ -170,15 +171,17 @@ module _ (view : View) (block : ℕ) (old new : Search) (is : IsSearch view bloc
   from_there = omega (arith, from_inside, length-trail old.entries.items)
 
   -- the search goes on
-  pub search_kept : IsSearch view block new
+  pub search_kept : IsSearch view start block new
   search_kept = record {
     linked = linked_kept;
     one_each = ap length added.latest ∙ length-set old.latest.items to (Some (length old.entries.items)) ∙ is.one_each;
-    course = subst (λ (t : List TrailEntry). IsCourse view block t (seen_of new.sets.items new.entries.items))
+    course = subst (λ (t : List TrailEntry). IsCourse view start block t (seen_of new.sets.items new.entries.items))
         (sym trail_is)
-        (subst (IsCourse view block (trail_of old.entries.items ++ record { node = to; earlier = Some from } ∷ []))
+        (subst (IsCourse view start block (trail_of old.entries.items ++ record { node = to; earlier = Some from } ∷
+        []))
         (sym seen_is)
-        (course_more view block (trail_of old.entries.items) (seen_of old.sets.items old.entries.items) is.course from
+        (course_more view start block (trail_of old.entries.items) (seen_of old.sets.items old.entries.items) is.course
+        from
         to from_there edge));
   }
 
@@ -196,7 +199,8 @@ module _ (view : View) (block : ℕ) (old new : Search) (is : IsSearch view bloc
       subst (λ (t : List TrailEntry). IsBetween t (seen_of new.sets.items new.entries.items) to younger) (sym trail_is)
       (subst (λ (s : List (Option (List ℕ))). IsBetween (trail_of old.entries.items ++ record
       { node = to; earlier = Some from } ∷ []) s to younger) (sym seen_is)
-      (between_new view block (trail_of old.entries.items) (seen_of old.sets.items old.entries.items) is.course from to
+      (between_new view start block (trail_of old.entries.items) (seen_of old.sets.items old.entries.items) is.course
+      from to
       from_there edge))
 
 -- a list is as long as itself
@@ -220,32 +224,34 @@ extends_trans one two three first second = record {
 }
 
 -- the search went on along an edge, and what it leads to lies between entries
-pub record IsStepped (view : View) (block : ℕ) (old new : Search) (to : Option ℕ) (younger : Option (List ℕ)) : Type 0
+pub record IsStepped (view : View) (start : Start) (block : ℕ) (old new : Search) (to : Option ℕ)
+    (younger : Option (List ℕ)) : Type 0
   where
-    pub search : IsSearch view block new
+    pub search : IsSearch view start block new
     pub extends : Extends old new
     pub between : (m : ℕ) → to ≡ Some m
         → IsBetween (trail_of new.entries.items) (seen_of new.sets.items new.entries.items) m younger
 
 -- a followed edge does so
-pub stepped : (view : View) (block : ℕ) (old new : Search) (from : ℕ) (to : Option ℕ) (younger : Option (List ℕ))
-    → IsSearch view block old → from < length old.entries.items
+pub stepped : (view : View) (start : Start) (block : ℕ) (old new : Search) (from : ℕ) (to : Option ℕ)
+    (younger : Option (List ℕ))
+    → IsSearch view start block old → from < length old.entries.items
     → ((m : ℕ) → to ≡ Some m → IsSuccessor (graph_step view.nodes) (node_at (trail_of old.entries.items) from) m)
     → ((m : ℕ) → to ≡ Some m → m < length old.latest.items)
     → younger ≡ cut_after view block (node_at (trail_of old.entries.items) from)
     (seen_at (seen_of old.sets.items old.entries.items) from)
-    → IsFollowed old new from to younger → IsStepped view block old new to younger
-stepped view block old new from None younger is inside edges ends value followed =
+    → IsFollowed old new from to younger → IsStepped view start block old new to younger
+stepped view start block old new from None younger is inside edges ends value followed =
     let same : old ≡ new = sym followed in
     record {
-      search = subst (IsSearch view block) same is;
+      search = subst (IsSearch view start block) same is;
       extends = subst (Extends old) same (extends_refl old);
       between = λ m no. absurd (cc);
     }
-stepped view block old new from (Some to) younger is inside edges ends value (inl kept) =
+stepped view start block old new from (Some to) younger is inside edges ends value (inl kept) =
     let same : old ≡ new = sym kept.0 in
     record {
-      search = subst (IsSearch view block) same is;
+      search = subst (IsSearch view start block) same is;
       extends = subst (Extends old) same (extends_refl old);
       between = λ m at.
           let here : to ≡ m = same_Some to m at in
@@ -254,26 +260,26 @@ stepped view block old new from (Some to) younger is inside edges ends value (in
           (subst (λ (k : ℕ). IsBetween (trail_of old.entries.items) (seen_of old.sets.items old.entries.items) k
           younger) here kept.1);
     }
-stepped view block old new from (Some to) younger is inside edges ends value (inr more) =
+stepped view start block old new from (Some to) younger is inside edges ends value (inr more) =
     let added = subst (IsAdded old new from to) value more in
     let edge = edges to refl in
     record {
-      search = search_kept view block old new is from to inside edge (ends to refl) added;
-      extends = added_extends view block old new is from to inside edge (ends to refl) added;
+      search = search_kept view start block old new is from to inside edge (ends to refl) added;
+      extends = added_extends view start block old new is from to inside edge (ends to refl) added;
       between = λ m at.
           let here : to ≡ m = same_Some to m at in
           subst (λ (k : ℕ). IsBetween (trail_of new.entries.items) (seen_of new.sets.items new.entries.items) k younger)
           here
           (subst (IsBetween (trail_of new.entries.items) (seen_of new.sets.items new.entries.items) to) (sym value)
-          (added_between view block old new is from to inside edge (ends to refl) added));
+          (added_between view start block old new is from to inside edge (ends to refl) added));
     }
 
 -- what lay between entries still does
-pub between_extended : (view : View) (block : ℕ) (old new : Search) (n : ℕ) (younger : Option (List ℕ))
-    → IsSearch view block old → Extends old new
+pub between_extended : (view : View) (start : Start) (block : ℕ) (old new : Search) (n : ℕ) (younger : Option (List ℕ))
+    → IsSearch view start block old → Extends old new
     → IsBetween (trail_of old.entries.items) (seen_of old.sets.items old.entries.items) n younger
     → IsBetween (trail_of new.entries.items) (seen_of new.sets.items new.entries.items) n younger
-between_extended view block old new n younger is extends between =
+between_extended view start block old new n younger is extends between =
     between_kept (trail_of old.entries.items) (trail_of new.entries.items) (seen_of old.sets.items old.entries.items)
     (seen_of new.sets.items new.entries.items) n younger
     is.course.one_each extends.trail extends.seen between

@@ -5,12 +5,13 @@ use Rattle.std.proofs.lemmas.Bool.{cases_Bool, cases_lt}
 use Rattle.std.proofs.lemmas.Bool.Decides.{nat_tests}
 use Rattle.std.specs.List.Sorted.{IsStrictlyIncreasing}
 use Rattle.set_list.specs.SetList.{IsSubset}
-use Rattle.focus_spec.specs.Younger.{with_number, after, younger, is_small, fetch_at}
-use Rattle.focus_spec.specs.Focus.{younger_after}
+use Rattle.cache_spec.specs.declared.start.Start.{Start}
+use Rattle.cache_spec.specs.declared.start.Start.TheVariants.{Empty, Any}
+use Rattle.focus_spec.specs.Younger.{with_number, after, after_all, is_small, fetch_at}
 use Rattle.set_list.specs.RisingSets.{rising-empty, subset-short}
 use Rattle.focus_spec.proofs.WithNumber.{Contains-with_number, rising-with_number}
 use Rattle.set_view.specs.View.{View}
-use Rattle.focus_plain.specs.Cut.{cut, IsBelow, left_by, cut_after}
+use Rattle.focus_plain.specs.Cut.{cut, IsBelow, IsFirst, left_by, cut_after}
 
 -- a younger set rises, if it is there
 abbrev pub IsRising : Option (List ℕ) → Type 0
@@ -101,15 +102,41 @@ after-rising block (Some other) younger rising = elim (cases_Bool (eqb other blo
     added None rising = tt
     added (Some set) rising = rising-with_number other set rising
 
--- younger sets rise
-pub younger-rising : (block : ℕ) (fetches : List (Option ℕ)) → IsRising (younger block fetches)
-younger-rising block [] = tt
-younger-rising block (fetch ∷ earlier) = after-rising block fetch (younger block earlier) (younger-rising block earlier)
+-- so do more fetches
+pub all-rising : (block : ℕ) (fetches : List (Option ℕ)) (first : Option (List ℕ)) → IsRising first
+    → IsRising (after_all block fetches first)
+all-rising block [] first rising = rising
+all-rising block (fetch ∷ earlier) first rising =
+    after-rising block fetch (after_all block earlier first) (all-rising block earlier first rising)
+
+-- they keep the order
+all-below : (block : ℕ) (fetches : List (Option ℕ)) (one two : Option (List ℕ)) → IsBelow one two
+    → IsBelow (after_all block fetches one) (after_all block fetches two)
+all-below block [] one two below = below
+all-below block (fetch ∷ earlier) one two below =
+    after-below block fetch (after_all block earlier one) (after_all block earlier two)
+    (all-below block earlier one two below)
+
+-- what is there before the first fetch rises
+pub first-rising : (start : Start) (first : Option (List ℕ)) → IsFirst start first → IsRising first
+first-rising start first (inl none) = subst IsRising (sym none) tt
+first-rising Empty first (inr none) = subst IsRising (sym none) tt
+first-rising Any first (inr empty) = subst IsRising (sym empty) rising-empty
 
 -- what a path leaves rises
-pub left_by-rising : (view : View) (block : ℕ) (members : List ℕ) → IsRising (left_by view block members)
-left_by-rising view block members = cut-rising view.geometry.ways (younger_after view.fetches block members)
-    (younger-rising block (map (fetch_at view.fetches) members))
+pub left_by-rising : (view : View) (block : ℕ) (first : Option (List ℕ)) (members : List ℕ) → IsRising first
+    → IsRising (left_by view block first members)
+left_by-rising view block first members rising =
+    let fetches = map (fetch_at view.fetches) members in
+    cut-rising view.geometry.ways (after_all block fetches first) (all-rising block fetches first rising)
+
+-- from no younger set it leaves what lies above all that it leaves else
+pub left_by-below : (view : View) (block : ℕ) (first : Option (List ℕ)) (members : List ℕ) → IsRising first
+    → IsBelow (left_by view block first members) (left_by view block None members)
+left_by-below view block first members rising =
+    let fetches = map (fetch_at view.fetches) members in
+    cut-below view.geometry.ways (after_all block fetches first) (after_all block fetches None)
+    (all-rising block fetches first rising) (all-rising block fetches None tt) (all-below block fetches first None tt)
 
 -- a node keeps the order
 pub cut_after-below : (view : View) (block n : ℕ) (one two : Option (List ℕ)) → IsRising one → IsRising two
@@ -142,11 +169,12 @@ cut-after ways block (Some other) (Some set) rising = elim (cases_lt (length set
 ]
 
 -- one member further
-pub left_by-more : (view : View) (block n : ℕ) (members : List ℕ)
-    → left_by view block (n ∷ members) ≡ cut_after view block n (left_by view block members)
-left_by-more view block n members =
-    sym (cut-after view.geometry.ways block (fetch_at view.fetches n) (younger_after view.fetches block members)
-    (younger-rising block (map (fetch_at view.fetches) members)))
+pub left_by-more : (view : View) (block n : ℕ) (first : Option (List ℕ)) (members : List ℕ) → IsRising first
+    → left_by view block first (n ∷ members) ≡ cut_after view block n (left_by view block first members)
+left_by-more view block n first members rising =
+    let fetches = map (fetch_at view.fetches) members in
+    sym (cut-after view.geometry.ways block (fetch_at view.fetches n) (after_all block fetches first)
+    (all-rising block fetches first rising))
 
 -- a younger set is small where it is not cut off
 pub small-cut : (ways : ℕ) (younger : Option (List ℕ)) → is_small ways younger ≡ is_some (cut ways younger)

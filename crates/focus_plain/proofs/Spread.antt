@@ -4,6 +4,7 @@ use Rattle.std.proofs.lemmas.List.{get_or_append_left}
 use Rattle.std.proofs.lemmas.Option.{slice_get-get_or}
 use Rattle.std.specs.Prelude.{slice_get}
 use Rattle.path_model.proofs.Edges.{successor-from_node, leads-from_successor}
+use Rattle.cache_spec.specs.declared.start.Start.{Start}
 use Rattle.transition_spec.specs.Path.{IsSuccessor}
 use Rattle.path_model.specs.declared.graph.Node.{Node}
 use Rattle.path_model.specs.Graph.{graph_step}
@@ -23,23 +24,24 @@ use Rattle.focus_plain.proofs.Links.{entry_read, node-read, seen-read, length-tr
 use Rattle.focus_plain.proofs.Followed.{IsStepped, stepped, extends_trans, between_extended}
 
 -- what an entry has seen is cut already
-pub small-read : (view : View) (block : ℕ) (trail : List TrailEntry) (seen : List (Option (List ℕ))) (number : ℕ)
-    → IsCourse view block trail seen → number < length trail
+pub small-read : (view : View) (start : Start) (block : ℕ) (trail : List TrailEntry) (seen : List (Option (List ℕ)))
+    (number : ℕ)
+    → IsCourse view start block trail seen → number < length trail
     → cut view.geometry.ways (seen_at seen number) ≡ seen_at seen number
-small-read view block trail seen number course inside =
+small-read view start block trail seen number course inside =
     let P : Option (List ℕ) → Type 0 = λ o. cut view.geometry.ways o ≡ o in
-    subst P (course.sound number inside).2 (cut-cut view.geometry.ways _)
+    subst P (course.sound number inside).2.2 (cut-cut view.geometry.ways _)
 
 -- both edges of an entry's node are followed, and what they lead to lies between entries
-pub record AreStepped (view : View) (block : ℕ) (old new : Search) (index : ℕ) : Type 0 where
-  pub search : IsSearch view block new
+pub record AreStepped (view : View) (start : Start) (block : ℕ) (old new : Search) (index : ℕ) : Type 0 where
+  pub search : IsSearch view start block new
   pub extends : Extends old new
   pub between : (m : ℕ) → IsSuccessor (graph_step view.nodes) (node_at (trail_of old.entries.items) index) m
       → IsBetween (trail_of new.entries.items) (seen_of new.sets.items new.entries.items) m
       (cut_after view block (node_at (trail_of old.entries.items) index)
       (seen_at (seen_of old.sets.items old.entries.items) index))
 
-module _ (view : View) (block : ℕ) (old : Search) (is : IsSearch view block old) (index : ℕ)
+module _ (view : View) (start : Start) (block : ℕ) (old : Search) (is : IsSearch view start block old) (index : ℕ)
     (inside : index < length old.entries.items)
     (entry : Entry) (read : entry ≡ get_or old.entries.items index entry) where
   -- the entry is there
@@ -62,7 +64,8 @@ module _ (view : View) (block : ℕ) (old : Search) (is : IsSearch view block ol
   pub seen_small : cut view.geometry.ways (set_at old.sets.items entry.younger) ≡ set_at old.sets.items entry.younger
   seen_small =
       let P : Option (List ℕ) → Type 0 = λ o. cut view.geometry.ways o ≡ o in
-      subst P seen_is (small-read view block (trail_of old.entries.items) (seen_of old.sets.items old.entries.items)
+      subst P seen_is (small-read view start block (trail_of old.entries.items)
+      (seen_of old.sets.items old.entries.items)
       index is.course (omega (arith, inside, length-trail old.entries.items)))
 
   module _ (nodes : List Node) (same : nodes ≡ view.nodes) (none : Node)
@@ -102,9 +105,9 @@ module _ (view : View) (block : ℕ) (old : Search) (is : IsSearch view block ol
       module _ (middle : Search) (first : IsFollowed old middle index node.first (reached_set old.sets.items reached))
         where
           -- the first edge
-          pub first_stepped : IsStepped view block old middle node.first (reached_set old.sets.items reached)
+          pub first_stepped : IsStepped view start block old middle node.first (reached_set old.sets.items reached)
           first_stepped =
-              stepped view block old middle index node.first (reached_set old.sets.items reached) is inside
+              stepped view start block old middle index node.first (reached_set old.sets.items reached) is inside
               (λ m at. successor-from_node view.nodes (node_at (trail_of old.entries.items) index) m node node_found
               (inl at))
               (λ m at. omega (
@@ -166,9 +169,9 @@ module _ (view : View) (block : ℕ) (old : Search) (is : IsSearch view block ol
           module _ (new : Search)
               (second : IsFollowed middle new index node.second (reached_set middle.sets.items reached)) where
             -- the second edge is followed from there
-            second_stepped : IsStepped view block middle new node.second (reached_set middle.sets.items reached)
+            second_stepped : IsStepped view start block middle new node.second (reached_set middle.sets.items reached)
             second_stepped =
-                stepped view block middle new index node.second (reached_set middle.sets.items reached)
+                stepped view start block middle new index node.second (reached_set middle.sets.items reached)
                 first_stepped.search inside_still
                 (λ m at. subst (λ (n : ℕ). IsSuccessor (graph_step view.nodes) n m) (sym node_still)
                 (second_edge m at))
@@ -176,7 +179,7 @@ module _ (view : View) (block : ℕ) (old : Search) (is : IsSearch view block ol
                 value_still second
 
             -- both edges are
-            pub both_stepped : AreStepped view block old new index
+            pub both_stepped : AreStepped view start block old new index
             both_stepped = record {
               search = second_stepped.search;
               extends = extends_trans old middle new first_stepped.extends second_stepped.extends;
@@ -184,7 +187,8 @@ module _ (view : View) (block : ℕ) (old : Search) (is : IsSearch view block ol
                   let from = node_at (trail_of old.entries.items) index in
                   elim (leads-from_successor view.nodes from m node node_found edge) [
                     | inl at ↦
-                        between_extended view block middle new m younger first_stepped.search second_stepped.extends
+                        between_extended view start block middle new m younger first_stepped.search
+                        second_stepped.extends
                         (subst (λ (y : Option (List ℕ)). IsBetween (trail_of middle.entries.items)
                         (seen_of middle.sets.items middle.entries.items) m y) value_is (first_stepped.between m at))
                     | inr at ↦

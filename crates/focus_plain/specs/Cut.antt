@@ -1,9 +1,9 @@
--- Younger sets as far as they tell hits: those with fewer blocks than the cache set has ways; all others are None,
--- above everything.
-use Rattle.std.specs.Prelude.{ℕ, if◌then◌else◌, nat_lt, List, length, Option, Some, None}
+-- Younger and warm sets as far as they matter to hits: those with fewer blocks than the cache set has ways; all others
+-- are None, above everything.
+use Rattle.std.specs.Prelude.{◌≡◌, ◌⊎◌, ℕ, if◌then◌else◌, nat_lt, List, length, map, Option, Some, None}
+use Rattle.cache_spec.specs.declared.start.Start.{Start}
 use Rattle.set_list.specs.SetList.{IsSubset}
-use Rattle.focus_spec.specs.Younger.{after, fetch_at}
-use Rattle.focus_spec.specs.Focus.{younger_after}
+use Rattle.focus_spec.specs.Younger.{after, after_all, first_warm, fetch_at}
 use Rattle.set_view.specs.View.{View}
 
 -- the younger set where it is small
@@ -21,9 +21,14 @@ abbrev pub IsBelow : Option (List ℕ) → Option (List ℕ) → Type 0
 IsBelow younger None = Unit {0}
 IsBelow younger (Some larger) = IsWithin younger larger
 
--- what these members of a path, the last of them first, leave of the block's younger set
-abbrev pub left_by : View → ℕ → List ℕ → Option (List ℕ)
-left_by view block members = cut view.geometry.ways (younger_after view.fetches block members)
+-- what is there before the first fetch: no younger set, and the start's warm set
+abbrev pub IsFirst : Start → Option (List ℕ) → Type 0
+IsFirst start first = (first ≡ None) ⊎ (first ≡ first_warm start)
+
+-- what these members of a path, the last of them first, make of what is there before the first fetch
+abbrev pub left_by : View → ℕ → Option (List ℕ) → List ℕ → Option (List ℕ)
+left_by view block first members =
+    cut view.geometry.ways (after_all block (map (fetch_at view.fetches) members) first)
 
 -- what a node makes of the younger set before it
 abbrev pub cut_after : View → ℕ → ℕ → Option (List ℕ) → Option (List ℕ)

@@ -33,7 +33,7 @@ ends_of found false = found.misses.items
 
 -- a search that is done, and where it found hits and misses
 pub record IsFound (view : View) (found : Found) : Type 0 where
-  pub search : IsSearch view found.block found.search
+  pub search : IsSearch view found.start found.block found.search
   pub spread : IsSpread view found.block (trail_of found.search.entries.items)
       (seen_of found.search.sets.items found.search.entries.items) (length found.search.entries.items)
   pub ends : (hits : Bool)

@@ -1,5 +1,6 @@
 -- What the entries of a search say: each stands for a path, and together they lie below and above what all paths leave.
 use Rattle.std.specs.Prelude.{◌≡◌, ℕ, ◌<◌, List, [], ◌∷◌, length, map, Option, Some, None, slice_index_or}
+use Rattle.cache_spec.specs.declared.start.Start.{Start}
 use Rattle.transition_spec.specs.Path.{IsSuccessor}
 use Rattle.path_model.specs.Graph.{graph_step}
 use Rattle.path_trail.specs.Trail.{TrailEntry, node_at, IsChain, IsTrail}
@@ -7,7 +8,7 @@ use Rattle.focus_spec.specs.Younger.{with_number}
 use Rattle.set_view.specs.View.{View}
 use Rattle.focus_plain.specs.declared.search.Entry.{Entry}
 use Rattle.focus_plain.specs.declared.reach.Reach.{Reach}
-use Rattle.focus_plain.specs.Cut.{IsBelow, left_by, cut_after}
+use Rattle.focus_plain.specs.Cut.{IsBelow, IsFirst, left_by, cut_after}
 
 -- the set with one more number, if there is one
 abbrev pub with_more : Option ℕ → List ℕ → List ℕ
@@ -50,20 +51,29 @@ seen_of sets entries = map (λ entry. set_at sets entry.younger) entries
 abbrev pub seen_at : List (Option (List ℕ)) → ℕ → Option (List ℕ)
 seen_at seen number = slice_index_or seen number None
 
--- the chain of an entry leaves this younger set before the entry's node
-abbrev pub IsSound : View → ℕ → List TrailEntry → ℕ → Option (List ℕ) → Type 0
-IsSound view block trail number younger =
-    (earlier : List ℕ) × IsChain trail (Some number) (node_at trail number ∷ earlier)
-    × (left_by view block earlier ≡ younger)
+-- the members of a path leave this set, from one that is there before the first fetch
+abbrev pub IsLeft : View → Start → ℕ → List ℕ → Option (List ℕ) → Type 0
+IsLeft view start block members set =
+    (first : Option (List ℕ)) × IsFirst start first × (left_by view block first members ≡ set)
 
--- the entries begin with the path of node 0 alone, each follows an edge, and each is sound
-pub record IsCourse (view : View) (block : ℕ) (trail : List TrailEntry) (seen : List (Option (List ℕ))) : Type 0 where
+-- the chain of an entry leaves this set before the entry's node
+abbrev pub IsSound : View → Start → ℕ → List TrailEntry → ℕ → Option (List ℕ) → Type 0
+IsSound view start block trail number set =
+    (earlier : List ℕ) × IsChain trail (Some number) (node_at trail number ∷ earlier)
+    × IsLeft view start block earlier set
+
+-- an entry of the path of node 0 alone has seen this set
+abbrev pub BeginsWith : List TrailEntry → List (Option (List ℕ)) → Option (List ℕ) → Type 0
+BeginsWith trail seen set =
+    (number : ℕ) × (number < length trail) × (node_at trail number ≡ 0) × (seen_at seen number ≡ set)
+
+-- there is an entry for each set that is there before the first fetch, each entry follows an edge, and each is sound
+pub record IsCourse (view : View) (start : Start) (block : ℕ) (trail : List TrailEntry)
+    (seen : List (Option (List ℕ))) : Type 0 where
   pub one_each : length seen ≡ length trail
-  pub some : 0 < length trail
-  pub first_node : node_at trail 0 ≡ 0
-  pub first_seen : seen_at seen 0 ≡ None
+  pub begun : (first : Option (List ℕ)) → IsFirst start first → BeginsWith trail seen (left_by view block first [])
   pub follows : IsTrail view.nodes trail
-  pub sound : (number : ℕ) → number < length trail → IsSound view block trail number (seen_at seen number)
+  pub sound : (number : ℕ) → number < length trail → IsSound view start block trail number (seen_at seen number)
 
 -- an entry at the node has a younger set that is below this one
 abbrev pub HasBelow : List TrailEntry → List (Option (List ℕ)) → ℕ → Option (List ℕ) → Type 0

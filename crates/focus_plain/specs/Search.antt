@@ -1,10 +1,22 @@
 -- The state of a search, and how it goes on.
 use Rattle.std.specs.Prelude.{◌≡◌, ◌⊎◌, ℕ, ◌<◌, ◌≤◌, ◌^◌, List, [], ◌∷◌, ◌++◌, length, Option, Some, None, slice_get, slice_set, slice_index_or}
 use Rattle.std.specs.List.Sorted.{IsStrictlyIncreasing}
+use Rattle.cache_spec.specs.declared.start.Start.{Start}
+use Rattle.cache_spec.specs.declared.start.Start.TheVariants.{Empty, Any}
 use Rattle.path_trail.specs.Trail.{node_at}
 use Rattle.set_view.specs.View.{View}
+use Rattle.focus_plain.specs.declared.search.Entry.{Entry}
 use Rattle.focus_plain.specs.declared.search.Search.{Search}
 use Rattle.focus_plain.specs.Entries.{set_at, IsIndex, trail_of, seen_of, latest_at, next_of, index_of, IsCourse, IsBetween}
+
+-- an entry of the path of node 0 alone
+abbrev pub first_entry : Option ℕ → Option ℕ → Entry
+first_entry younger next = record { node = 0; younger = younger; earlier = None; next = next }
+
+-- the entries of that path: one without a set, and with any cache one with the empty set, which is first in the table
+abbrev pub first_entries : Start → List Entry
+first_entries Empty = first_entry None None ∷ []
+first_entries Any = first_entry None None ∷ first_entry (Some 0) (Some 0) ∷ []
 
 -- the first list is a prefix of the second
 abbrev pub IsLonger : {X : Type 0} → List X → List X → Type 0
@@ -37,10 +49,11 @@ pub record AreLinked (search : Search) : Type 0 where
       × (node_at (trail_of search.entries.items) other ≡ node_at (trail_of search.entries.items) number)
 
 -- a search: linked, with a last entry for each node, and each entry sound
-pub record IsSearch (view : View) (block : ℕ) (search : Search) : Type 0 where
+pub record IsSearch (view : View) (start : Start) (block : ℕ) (search : Search) : Type 0 where
   pub linked : AreLinked search
   pub one_each : length search.latest.items ≡ length view.nodes
-  pub course : IsCourse view block (trail_of search.entries.items) (seen_of search.sets.items search.entries.items)
+  pub course : IsCourse view start block (trail_of search.entries.items)
+      (seen_of search.sets.items search.entries.items)
 
 -- the later search has all that the earlier one had
 pub record Extends (old new : Search) : Type 0 where

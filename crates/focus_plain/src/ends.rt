@@ -1,11 +1,12 @@
 // Where a search found hits and misses.
 ghost use Rattle.std.specs.Prelude.{◌≡◌, ◌<◌, ◌^◌, ℕ, length, Some, IfOk};
 ghost use Rattle.path_trail.specs.Trail.{node_at};
+ghost use Rattle.set_view.specs.View.{IsView};
 ghost use Rattle.focus_plain.specs.Entries.{trail_of, latest_at};
 ghost use Rattle.focus_plain.specs.Ends.{AreEnds, IsNoted, IsFound, ends_of};
 
-use crate::search::{Entry, Search, find_entries};
-use set_view::SetView;
+use crate::search::{Entry, Focus, Search, find_entries};
+use path_model::Start;
 use std::alloc::{AllocError, Global};
 
 /// A search for a block that is done, and for each node the first entry with a small younger set and the first with
@@ -13,6 +14,7 @@ use std::alloc::{AllocError, Global};
 #[derive(Drop)]
 pub(crate) struct Found {
     pub block: u16,
+    pub start: Start,
     pub search: Search,
     pub hits: Vec<Option<u32>>,
     pub misses: Vec<Option<u32>>,
@@ -33,16 +35,19 @@ impl Found {
 }
 
 /// Searches for the block. The error is out of memory.
-pub(crate) fn find(alloc: Global, view: &SetView, block: u16) -> Result<Found, AllocError>
-    ensures block { IfOk result (λ found. found.block ≡ block) }
-    ensures found { IfOk result (λ found. IsFound view.now found) }
+pub(crate) fn find(alloc: Global, focus: &Focus) -> Result<Found, AllocError>
+    requires { IsView focus.now.view.now }
+    ensures block { IfOk result (λ found. found.block ≡ focus.now.block) }
+    ensures start { IfOk result (λ found. found.start ≡ focus.now.start) }
+    ensures found { IfOk result (λ found. IsFound focus.now.view.now found) }
 {
-    let search = find_entries(alloc, view, block)?;
-    let count = view.graph().nodes().len();
+    let search = find_entries(alloc, focus)?;
+    let count = focus.view.graph().nodes().len();
     let hits = ends(alloc, &search.entries, count, true)?;
     let misses = ends(alloc, &search.entries, count, false)?;
     Ok(Found {
-        block,
+        block: focus.block,
+        start: focus.start,
         search,
         hits,
         misses,

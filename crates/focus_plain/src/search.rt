@@ -1,14 +1,15 @@
 // The search: entries are made and worked off in order, each for what one path leaves of the block's younger set.
-ghost use Rattle.std.specs.Prelude.{◌≡◌, ◌<◌, ◌≤◌, ◌^◌, ℕ, [], ◌∷◌, length, slice_set, replicate, Some, None, IsTrue, IfOk, OnOk};
+ghost use Rattle.std.specs.Prelude.{◌≡◌, ◌<◌, ◌≤◌, ◌^◌, ◌-◌, ℕ, [], ◌∷◌, length, slice_set, replicate, Some, None, IsTrue, IfOk, OnOk};
 ghost use Rattle.transition_spec.specs.Path.{IsSuccessor};
 ghost use Rattle.path_model.specs.Graph.{graph_step};
 ghost use Rattle.path_trail.specs.Trail.{node_at};
+ghost use Rattle.set_view.specs.View.{IsView};
 ghost use Rattle.focus_plain.specs.Cut.{IsBelow, cut_after};
 ghost use Rattle.focus_plain.specs.Entries.{set_at, reached_set, IsIndex, IsReachable, IsBetween, IsSpread, trail_of, seen_of, seen_at};
-ghost use Rattle.focus_plain.specs.Search.{Grows, AreRising, IsAdded, IsFollowed, AreLinked, IsSearch, Extends};
+ghost use Rattle.focus_plain.specs.Search.{Grows, AreRising, IsAdded, IsFollowed, AreLinked, IsSearch, Extends, first_entry, first_entries};
 
 use crate::reach::{Reach, is_above, is_below, longer, moved};
-use path_model::graph_laws;
+use path_model::{Start, graph_laws};
 use path_trail::Trail;
 use set_list::SetList;
 use set_view::SetView;
@@ -16,6 +17,15 @@ use std::alloc::{AllocError, Global};
 
 // One more entry than this would have no number.
 const LIMIT: usize = u32::MAX as usize;
+
+/// What is looked at: a block of a cache set, by its local number, over all paths of the view's graph, from all that the
+/// cache may start with.
+#[derive(Clone, Copy)]
+pub(crate) struct Focus<'v, 'g> {
+    pub view: &'v SetView<'g>,
+    pub block: u16,
+    pub start: Start,
+}
 
 /// A path that was found, as its last node and the entry of the path before it.
 #[derive(Clone, Copy)]
@@ -51,46 +61,41 @@ impl Trail for Search {
     }
 }
 
-/// Entries such that what each path leaves of the block's younger set lies between what two entries at its last node
-/// have seen.
+/// Entries such that what each path leaves of the block's younger set and of its warm set lies between what two entries
+/// at its last node have seen.
 ///
 /// A path is left out where what it leaves lies between what two entries of its node have seen. The entries stand in
 /// the order of their paths' lengths, so that the first one at a node with a small younger set, or with a large one,
 /// should stand for a shortest path; that is not proved. The error is out of memory, also where there were more than
 /// 4,294,967,295 entries, which take more than 64 GiB.
-pub(crate) fn find_entries(alloc: Global, view: &SetView, block: u16) -> Result<Search, AllocError>
-    ensures search { IfOk result (λ search. IsSearch view.now block search) }
-    ensures spread { IfOk result (λ search. IsSpread view.now block (trail_of search.entries.items)
+pub(crate) fn find_entries(alloc: Global, focus: &Focus) -> Result<Search, AllocError>
+    requires { IsView focus.now.view.now }
+    ensures search { IfOk result (λ search. IsSearch focus.now.view.now focus.now.start focus.now.block search) }
+    ensures spread { IfOk result (λ search. IsSpread focus.now.view.now focus.now.block (trail_of search.entries.items)
         (seen_of search.sets.items search.entries.items) (length search.entries.items)) }
 {
-    let mut search = begin(alloc, view.graph().nodes().len())?;
+    let mut search = begin(alloc, focus.view.graph().nodes().len(), focus.start)?;
     let mut index = 0;
     while (index as usize) < search.entries.len() {
-        spread(&mut search, view, block, index)?;
+        spread(&mut search, focus, index)?;
         index += 1;
     }
     Ok(search)
 }
 
-// Only the path of node 0 alone, which leaves no younger set before that node.
-fn begin(alloc: Global, count: usize) -> Result<Search, AllocError>
+// Only the path of node 0 alone.
+fn begin(alloc: Global, count: usize, start: Start) -> Result<Search, AllocError>
     requires { 1 ≤ count }
-    ensures entries { IfOk result (λ search. search.entries.items
-        ≡ record { node = 0; younger = None; earlier = None; next = None } ∷ []) }
+    ensures entries { IfOk result (λ search. search.entries.items ≡ first_entries start) }
     ensures sets { IfOk result (λ search. search.sets.items ≡ [] ∷ []) }
-    ensures latest { IfOk result (λ search. search.latest.items ≡ slice_set (replicate count None) 0 (Some 0)) }
+    ensures latest { IfOk result (λ search. search.latest.items
+        ≡ slice_set (replicate count None) 0 (Some (length (first_entries start) - 1))) }
 {
-    let mut entries = Vec::new(alloc);
-    entries.push(Entry {
-        node: 0,
-        younger: None,
-        earlier: None,
-        next: None,
-    })?;
+    let entries = first_entries(alloc, start)?;
     let mut sets = Vec::new(alloc);
     sets.push(SetList::empty(alloc))?;
     let mut latest = vec![in alloc; None; count]?;
-    latest[0] = Some(0);
+    latest[0] = Some(entries.len() as u32 - 1);
     Ok(Search {
         entries,
         sets,
@@ -98,25 +103,51 @@ fn begin(alloc: Global, count: usize) -> Result<Search, AllocError>
     })
 }
 
+// The path of node 0 alone has no younger set before that node. Where the cache may hold anything, no block is younger
+// there than one that it holds.
+fn first_entries(alloc: Global, start: Start) -> Result<Vec<Entry>, AllocError>
+    ensures { IfOk result (λ entries. entries.items ≡ first_entries start) }
+{
+    let mut entries = Vec::new(alloc);
+    entries.push(first_entry(None, None))?;
+    match start {
+        Start::Empty => {}
+        Start::Any => entries.push(first_entry(Some(0), Some(0)))?,
+    }
+    Ok(entries)
+}
+
+fn first_entry(younger: Option<u32>, next: Option<u32>) -> Entry
+    ensures { result ≡ first_entry younger next }
+{
+    Entry {
+        node: 0,
+        younger,
+        earlier: None,
+        next,
+    }
+}
+
 // Follows both edges of an entry's node.
-fn spread(search: &mut Search, view: &SetView, block: u16, index: u32) -> Result<(), AllocError>
-    requires search { IsSearch view.now block search.old }
+fn spread(search: &mut Search, focus: &Focus, index: u32) -> Result<(), AllocError>
+    requires search { IsSearch focus.now.view.now focus.now.start focus.now.block search.old }
     requires inside { index < length search.old.entries.items }
-    ensures search { OnOk result (IsSearch view.now block search.new) }
+    ensures search { OnOk result (IsSearch focus.now.view.now focus.now.start focus.now.block search.new) }
     ensures extends { OnOk result (Extends search.old search.new) }
     ensures spread { OnOk result ((m : ℕ) →
         let node = node_at (trail_of search.old.entries.items) index in
         let seen = seen_of search.old.sets.items search.old.entries.items in
-        IsSuccessor (graph_step view.now.nodes) node m
+        IsSuccessor (graph_step focus.now.view.now.nodes) node m
         → IsBetween (trail_of search.new.entries.items) (seen_of search.new.sets.items search.new.entries.items) m
-        (cut_after view.now block node (seen_at seen index))) }
+        (cut_after focus.now.view.now focus.now.block node (seen_at seen index))) }
 {
     graph_laws();
+    let view = focus.view;
     let entry = search.entries[index as usize];
     let reached = moved(
         &search.sets,
         view.ways(),
-        block,
+        focus.block,
         view.fetch(entry.node),
         entry.younger,
     );

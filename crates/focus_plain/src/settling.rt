@@ -1,4 +1,4 @@
-// The least and the most younger sets where a block is fetched, with the ways that bear out its fate there.
+// The least warm and the most younger sets where a block is fetched, with the ways that bear out its fate there.
 ghost use Rattle.std.specs.Prelude.{◌≡◌, ◌<◌, length, map, [], ◌∷◌, ◌++◌, if◌then◌else◌, Some, IfOk, OnOk};
 ghost use Rattle.std.specs.List.{All};
 ghost use Rattle.focus_spec.specs.Younger.{fetch_at};
@@ -9,13 +9,16 @@ ghost use Rattle.focus_plain.specs.Judged.{AreFetchers, IsEnd};
 ghost use Rattle.focus_plain.specs.Settled.{IsFate, IsPlainPlace, AreAlike};
 
 use crate::ends::{Found, find};
+use crate::search::Focus;
 use focus_values::{YoungerSets, younger_sets};
+use path_model::Start;
 use path_trail::{Way, way_of};
 use plain_family::PlainFamily;
 use set_view::{SetView, view_laws};
 use std::alloc::{AllocError, Global};
 
-/// A node that fetches a block, with a way to a hit there and one to a miss, each exactly where some path is one.
+/// A node that fetches a block, with a way of a path that can hit there and one of a path that can miss, each exactly
+/// where some path can.
 #[derive(Debug, Drop)]
 pub struct Fate {
     pub node: u32,
@@ -23,13 +26,13 @@ pub struct Fate {
     pub miss: Option<Way>,
 }
 
-/// A node that fetches a block, with the block's least and most younger sets before it.
+/// A node that fetches a block, with the block's least warm and most younger sets before it.
 #[derive(Drop)]
 pub struct PlainPlace {
     pub node: u32,
-    /// Those with fewer blocks than the set has ways that include no other.
+    /// The warm sets with fewer blocks than the set has ways that include no other.
     pub least: PlainFamily,
-    /// Those that no other includes; `None` exactly where some path that ends in the node misses.
+    /// The younger sets that no other includes; `None` exactly where some path that ends in the node can miss.
     pub most: Option<PlainFamily>,
 }
 
@@ -40,49 +43,54 @@ pub struct PlainSettled {
     pub fates: Vec<Fate>,
 }
 
-/// The least and the most younger sets of a block, and the fates that ways bear out, at each node that fetches it,
-/// rising by node. The block is given by its local number.
+/// The least warm and the most younger sets of a block, and the fates that ways bear out, at each node that fetches it,
+/// rising by node, from all that the cache may start with. The block is given by its local number.
 ///
 /// It solves for the sets (`focus_values::younger_sets` says what they cost), and searches the graph once as `judge`
 /// does. The error is out of memory.
-pub fn settle(alloc: Global, view: &SetView, block: u16) -> Result<PlainSettled, AllocError>
+pub fn settle(
+    alloc: Global,
+    view: &SetView,
+    block: u16,
+    start: Start,
+) -> Result<PlainSettled, AllocError>
     requires { block < length view.now.blocks }
     ensures places { IfOk result (λ settled.
         AreFetchers view.now.fetches block (map (λ place. place.node) settled.places.items)) }
     ensures fates { IfOk result (λ settled.
         AreFetchers view.now.fetches block (map (λ fate. fate.node) settled.fates.items)) }
-    ensures sets { IfOk result (λ settled. All (IsPlainPlace view.now block) settled.places.items) }
-    ensures ends { IfOk result (λ settled. All (IsFate view.now) settled.fates.items) }
+    ensures sets { IfOk result (λ settled. All (IsPlainPlace view.now start block) settled.places.items) }
+    ensures ends { IfOk result (λ settled. All (IsFate view.now start) settled.fates.items) }
     ensures alike { IfOk result (λ settled. AreAlike settled.places.items settled.fates.items) }
 {
     view_laws();
     let blocks = view.blocks();
     prove!((block as usize) < blocks.len());
-    let found = find(alloc, view, block)?;
+    let focus = Focus { view, block, start };
+    let found = find(alloc, &focus)?;
     let fates = fates(alloc, view, &found)?;
-    let sets = younger_sets(alloc, view, block)?;
-    let places = places(alloc, view, block, sets)?;
+    let sets = younger_sets(alloc, view, block, start)?;
+    let places = places(alloc, &focus, sets)?;
     Ok(PlainSettled { places, fates })
 }
 
-// The younger sets at the nodes that fetch the block.
+// The sets at the nodes that fetch the block.
 fn places(
     alloc: Global,
-    view: &SetView,
-    block: u16,
+    focus: &Focus,
     sets: Vec<YoungerSets>,
 ) -> Result<Vec<PlainPlace>, AllocError>
-    requires view { IsView view.now }
-    requires one_each { length sets.items ≡ length view.now.nodes }
-    requires exact { AreExact view.now block sets.items }
+    requires view { IsView focus.now.view.now }
+    requires one_each { length sets.items ≡ length focus.now.view.now.nodes }
+    requires exact { AreExact focus.now.view.now focus.now.start focus.now.block sets.items }
     ensures nodes { IfOk result (λ places.
-        AreFetchers view.now.fetches block (map (λ place. place.node) places.items)) }
-    ensures sets { IfOk result (λ places. All (IsPlainPlace view.now block) places.items) }
+        AreFetchers focus.now.view.now.fetches focus.now.block (map (λ place. place.node) places.items)) }
+    ensures sets { IfOk result (λ places. All (IsPlainPlace focus.now.view.now focus.now.start focus.now.block) places.items) }
 {
     let mut places = Vec::new(alloc);
     let mut node = 0;
     for younger in sets {
-        let fetches = view.fetch(node) == Some(block);
+        let fetches = focus.view.fetch(node) == Some(focus.block);
         keep(&mut places, fetches, node, younger)?;
         node += 1;
     }
@@ -121,7 +129,7 @@ fn fates(alloc: Global, view: &SetView, found: &Found) -> Result<Vec<Fate>, Allo
     requires found { IsFound view.now found.now }
     ensures nodes { IfOk result (λ fates.
         AreFetchers view.now.fetches found.now.block (map (λ fate. fate.node) fates.items)) }
-    ensures ends { IfOk result (λ fates. All (IsFate view.now) fates.items) }
+    ensures ends { IfOk result (λ fates. All (IsFate view.now found.now.start) fates.items) }
 {
     let mut fates = Vec::new(alloc);
     for node in 0..view.graph().nodes().len() as u32 {
@@ -139,7 +147,7 @@ fn fate_at(alloc: Global, view: &SetView, found: &Found, node: u32) -> Result<Fa
     requires fetches { fetch_at view.now.fetches node ≡ Some found.now.block }
     requires inside { node < length view.now.nodes }
     ensures node { IfOk result (λ fate. fate.node ≡ node) }
-    ensures fate { IfOk result (λ fate. IsFate view.now fate) }
+    ensures fate { IfOk result (λ fate. IsFate view.now found.now.start fate) }
 {
     Ok(Fate {
         node,
@@ -160,7 +168,7 @@ fn way_at(
     requires found { IsFound view.now found.now }
     requires fetches { fetch_at view.now.fetches node ≡ Some found.now.block }
     requires inside { node < length view.now.nodes }
-    ensures { IfOk result (λ way. IsEnd view.now node hits way) }
+    ensures { IfOk result (λ way. IsEnd view.now found.now.start node hits way) }
 {
     view_laws();
     match found.end_at(node, hits) {

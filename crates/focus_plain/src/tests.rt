@@ -1,6 +1,6 @@
 use crate::{Classification, judge, settle};
 use cache_geom::Geometry;
-use path_model::{Graph, Node, ends_in_hit, follow};
+use path_model::{Graph, Node, Start, can_hit, ends_in_hit, follow};
 use path_trail::Way;
 use plain_family::PlainFamily;
 use set_view::view;
@@ -55,19 +55,25 @@ const FORK: [Node; 5] = [
     },
 ];
 
-// Whether this way leads to the node, and hits there as it should.
+// Whether this way leads to the node, and can hit there, or miss, as it should.
 fn leads(
     alloc: Global,
     graph: &Graph,
     geometry: &Geometry,
+    start: Start,
     way: &Way,
     node: u32,
     hits: bool,
 ) -> Result<bool, Fail> {
-    match follow(alloc, graph, way.choices.letters(), way.steps)? {
-        None => Ok(false),
-        Some(path) => Ok(path.last() == Some(&node) && ends_in_hit(graph, geometry, &path) == hits),
-    }
+    let Some(path) = follow(alloc, graph, way.choices.letters(), way.steps)? else {
+        return Ok(false);
+    };
+    let can = if hits {
+        can_hit(graph, geometry, start, &path)
+    } else {
+        !ends_in_hit(graph, geometry, &path)
+    };
+    Ok(can && path.last() == Some(&node))
 }
 
 // What a classification is, by a letter.
@@ -82,31 +88,71 @@ fn letter(classification: &Classification) -> char {
 #[test]
 fn a_node_is_judged_by_all_paths_that_end_there(rt: HostRuntime) -> Result<(), Fail> {
     let alloc = rt.alloc();
-    for (nodes, ways, block, expected) in [
-        (LOOP.as_slice(), 1, 0, [(0, 'm'), (2, 'm')].as_slice()),
-        (LOOP.as_slice(), 2, 0, [(0, 'b'), (2, 'h')].as_slice()),
-        (LOOP.as_slice(), 2, 1, [(1, 'b')].as_slice()),
-        (FORK.as_slice(), 1, 0, [(0, 'm'), (3, 'm')].as_slice()),
-        (FORK.as_slice(), 2, 0, [(0, 'm'), (3, 'b')].as_slice()),
-        (FORK.as_slice(), 3, 0, [(0, 'm'), (3, 'h')].as_slice()),
+    let empty = Start::Empty;
+    let any = Start::Any;
+    for (nodes, ways, block, start, expected) in [
+        (
+            LOOP.as_slice(),
+            1,
+            0,
+            empty,
+            [(0, 'm'), (2, 'm')].as_slice(),
+        ),
+        (LOOP.as_slice(), 1, 0, any, [(0, 'b'), (2, 'm')].as_slice()),
+        (LOOP.as_slice(), 1, 1, any, [(1, 'm')].as_slice()),
+        (
+            LOOP.as_slice(),
+            2,
+            0,
+            empty,
+            [(0, 'b'), (2, 'h')].as_slice(),
+        ),
+        (LOOP.as_slice(), 2, 0, any, [(0, 'b'), (2, 'h')].as_slice()),
+        (LOOP.as_slice(), 2, 1, empty, [(1, 'b')].as_slice()),
+        (
+            FORK.as_slice(),
+            1,
+            0,
+            empty,
+            [(0, 'm'), (3, 'm')].as_slice(),
+        ),
+        (
+            FORK.as_slice(),
+            2,
+            0,
+            empty,
+            [(0, 'm'), (3, 'b')].as_slice(),
+        ),
+        (
+            FORK.as_slice(),
+            3,
+            0,
+            empty,
+            [(0, 'm'), (3, 'h')].as_slice(),
+        ),
+        (FORK.as_slice(), 3, 0, any, [(0, 'b'), (3, 'h')].as_slice()),
+        // Only block 0 is fetched before block 2.
+        (FORK.as_slice(), 2, 2, empty, [(2, 'm')].as_slice()),
+        (FORK.as_slice(), 2, 2, any, [(2, 'b')].as_slice()),
+        (FORK.as_slice(), 1, 2, any, [(2, 'm')].as_slice()),
     ] {
         let graph = Graph::new(Vec::from_slice(alloc, nodes)?).expect(&rt, "a graph");
         let geometry = Geometry::new(4, 1, ways).expect(&rt, "in range");
         assert!(rt; 0 < geometry.sets());
         let seen = view(alloc, &graph, &geometry, 0)?;
         assert!(rt; (block as usize) < seen.blocks().len());
-        let judged = judge(alloc, &seen, block)?;
+        let judged = judge(alloc, &seen, block, start)?;
         assert_eq!(rt; judged.len(), expected.len());
         for (found, (node, kind)) in judged.iter().zip(expected) {
             assert_eq!(rt; found.node, *node);
             assert_eq!(rt;
                 letter(&found.classification),
                 *kind,
-                "{ways} ways, block {block}"
+                "{ways} ways, block {block}, {start:?}"
             );
             if let Classification::Both { hit, miss } = &found.classification {
-                assert!(rt; leads(alloc, &graph, &geometry, hit, *node, true)?);
-                assert!(rt; leads(alloc, &graph, &geometry, miss, *node, false)?);
+                assert!(rt; leads(alloc, &graph, &geometry, start, hit, *node, true)?);
+                assert!(rt; leads(alloc, &graph, &geometry, start, miss, *node, false)?);
             }
         }
     }
@@ -121,29 +167,28 @@ fn what_is_settled_has_ways_and_sets_where_paths_are(rt: HostRuntime) -> Result<
     assert!(rt; 0 < geometry.sets());
     let seen = view(alloc, &graph, &geometry, 0)?;
     assert!(rt; 0 < seen.blocks().len());
-    let settled = settle(alloc, &seen, 0)?;
-    let expected = [
-        (0, (3, "t"), Some((1, "")), false),
-        (2, (3, "n"), None, true),
-    ];
-    assert_eq!(rt; settled.fates.len(), expected.len());
-    for (fate, (node, hit, miss, kept)) in settled.fates.iter().zip(&expected) {
-        assert_eq!(rt; fate.node, *node);
-        assert_eq!(rt;
-            steps_and_letters(&fate.hit),
-            Some((hit.0, hit.1.as_bytes()))
-        );
-        assert_eq!(rt;
-            steps_and_letters(&fate.miss),
-            miss.map(|way| (way.0, way.1.as_bytes()))
-        );
-        assert!(rt; *kept || fate.miss.is_some());
-    }
-    assert_eq!(rt; settled.places.len(), expected.len());
-    for (place, (node, _hit, _miss, kept)) in settled.places.iter().zip(&expected) {
-        assert_eq!(rt; place.node, *node);
-        assert_eq!(rt; place.least.sets().len(), 1);
-        assert_eq!(rt; place.most.is_some(), *kept);
+    // With any cache the first fetch can hit at once.
+    for (start, first) in [(Start::Empty, (3, "t")), (Start::Any, (1, ""))] {
+        let settled = settle(alloc, &seen, 0, start)?;
+        let expected = [(0, first, Some((1, "")), false), (2, (3, "n"), None, true)];
+        assert_eq!(rt; settled.fates.len(), expected.len());
+        for (fate, (node, hit, miss, _)) in settled.fates.iter().zip(&expected) {
+            assert_eq!(rt; fate.node, *node);
+            assert_eq!(rt;
+                steps_and_letters(&fate.hit),
+                Some((hit.0, hit.1.as_bytes()))
+            );
+            assert_eq!(rt;
+                steps_and_letters(&fate.miss),
+                miss.map(|way| (way.0, way.1.as_bytes()))
+            );
+        }
+        assert_eq!(rt; settled.places.len(), expected.len());
+        for (place, (node, _, _, kept)) in settled.places.iter().zip(&expected) {
+            assert_eq!(rt; place.node, *node);
+            assert_eq!(rt; place.least.sets().len(), 1);
+            assert_eq!(rt; place.most.is_some(), *kept);
+        }
     }
     Ok(())
 }
@@ -172,16 +217,16 @@ fn two_arms_that_meet_leave_one_set(rt: HostRuntime) -> Result<(), Fail> {
     let seen = view(alloc, &graph, &geometry, 0)?;
     assert_eq!(rt; seen.blocks(), [0x2000, 0x2010, 0x2020].as_slice());
     assert!(rt; 0 < seen.blocks().len());
-    let settled = settle(alloc, &seen, 0)?;
     let both: &[u16] = &[1, 2];
-    let expected = [(0, None), (8, Some(both))];
-    assert_eq!(rt; settled.places.len(), expected.len());
-    for (place, (node, set)) in settled.places.iter().zip(&expected) {
-        assert_eq!(rt; place.node, *node);
-        assert_eq!(rt; only_set(&place.least), *set);
-        assert_eq!(rt; place.most.is_some(), set.is_some());
-        if let Some(most) = &place.most {
-            assert_eq!(rt; only_set(most), *set);
+    let none: &[u16] = &[];
+    for (start, first) in [(Start::Empty, None), (Start::Any, Some(none))] {
+        let settled = settle(alloc, &seen, 0, start)?;
+        let expected = [(0, first, None), (8, Some(both), Some(both))];
+        assert_eq!(rt; settled.places.len(), expected.len());
+        for (place, (node, least, most)) in settled.places.iter().zip(&expected) {
+            assert_eq!(rt; place.node, *node);
+            assert_eq!(rt; only_set(&place.least), *least);
+            assert_eq!(rt; place.most.as_ref().and_then(only_set), *most);
         }
     }
     Ok(())

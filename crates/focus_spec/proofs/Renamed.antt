@@ -1,11 +1,13 @@
--- Younger sets under other names of the blocks, by their places in a rising list.
+-- Younger sets and warm sets under other names of the blocks, by their places in a rising list.
 use Rattle.std.proofs.Common.{◌≡◌, ℕ, ◌<◌, List, [], ◌∷◌, length, map, Contains, Option, Some, None, option_map, refl, sym, ap, ◌∙◌, inl, inr, arith, eq-eqb}
 use Rattle.std.proofs.lemmas.Bool.{cases_eq, cases_order, ne_eqb}
 use Rattle.std.proofs.lemmas.List.Elements.{Contains-append_right}
 use Rattle.std.proofs.lemmas.List.Kept.{AllPairs-from_increasing}
 use Rattle.std.specs.List.Sorted.{IsStrictlyIncreasing}
 use Rattle.set_list.specs.Rising.{Contains-cons}
-use Rattle.focus_spec.specs.Younger.{with_number, after, younger, named}
+use Rattle.cache_spec.specs.declared.start.Start.{Start}
+use Rattle.cache_spec.specs.declared.start.Start.TheVariants.{Empty, Any}
+use Rattle.focus_spec.specs.Younger.{with_number, after, after_all, warm, named}
 use Rattle.focus_spec.proofs.WithNumber.{with_number-below, with_number-first, with_number-above, Contains-with_number}
 
 -- each number of the list is the place of a block
@@ -92,15 +94,16 @@ places-after blocks block other set inside places = elim (cases_eq other block) 
   | inr apart ↦ simp (ne_eqb other block apart) (places-with_number blocks other set inside places)
 ]
 
--- the numbers of a younger set are those of fetched blocks
-places-younger : (blocks : List ℕ) (block : ℕ) (fetches : List (Option ℕ)) → AreFetchedPlaces blocks fetches
-    → AreAllPlaces blocks (younger block fetches)
-places-younger blocks block [] places = tt
-places-younger blocks block (None ∷ earlier) places =
-    places-younger blocks block earlier (places-tail blocks None earlier places)
-places-younger blocks block (Some other ∷ earlier) places =
-    places-after blocks block other (younger block earlier) (places-head blocks other earlier places)
-    (places-younger blocks block earlier (places-tail blocks (Some other) earlier places))
+-- the numbers of the set after these fetches are those of the first set and of fetched blocks
+places-after_all : (blocks : List ℕ) (block : ℕ) (fetches : List (Option ℕ)) (first : Option (List ℕ))
+    → AreFetchedPlaces blocks fetches → AreAllPlaces blocks first
+    → AreAllPlaces blocks (after_all block fetches first)
+places-after_all blocks block [] first places old = old
+places-after_all blocks block (None ∷ earlier) first places old =
+    places-after_all blocks block earlier first (places-tail blocks None earlier places) old
+places-after_all blocks block (Some other ∷ earlier) first places old =
+    places-after blocks block other (after_all block earlier first) (places-head blocks other earlier places)
+    (places-after_all blocks block earlier first (places-tail blocks (Some other) earlier places) old)
 
 -- one more number under other names
 map-option : (blocks : List ℕ) (x : ℕ) (set : Option (List ℕ)) → IsStrictlyIncreasing blocks → x < length blocks
@@ -137,16 +140,26 @@ after-named blocks block other set up inside other_inside places =
           ∙ ap (option_map (map (named blocks))) (sym (after-other block other set apart))
     ]
 
--- a younger set names the same blocks, whether they are given by themselves or by their places
-pub younger-named : (blocks : List ℕ) (block : ℕ) (fetches : List (Option ℕ)) → IsStrictlyIncreasing blocks
-    → block < length blocks → AreFetchedPlaces blocks fetches
-    → younger (named blocks block) (map (option_map (named blocks)) fetches)
-    ≡ option_map (map (named blocks)) (younger block fetches)
-younger-named blocks block [] up inside places = refl
-younger-named blocks block (None ∷ earlier) up inside places =
-    younger-named blocks block earlier up inside (places-tail blocks None earlier places)
-younger-named blocks block (Some other ∷ earlier) up inside places =
+-- the set after some fetches names the same blocks, whether they are given by themselves or by their places
+after_all-named : (blocks : List ℕ) (block : ℕ) (fetches : List (Option ℕ)) (first : Option (List ℕ))
+    → IsStrictlyIncreasing blocks → block < length blocks → AreFetchedPlaces blocks fetches → AreAllPlaces blocks first
+    → after_all (named blocks block) (map (option_map (named blocks)) fetches) (option_map (map (named blocks)) first)
+    ≡ option_map (map (named blocks)) (after_all block fetches first)
+after_all-named blocks block [] first up inside places old = refl
+after_all-named blocks block (None ∷ earlier) first up inside places old =
+    after_all-named blocks block earlier first up inside (places-tail blocks None earlier places) old
+after_all-named blocks block (Some other ∷ earlier) first up inside places old =
     let later = places-tail blocks (Some other) earlier places in
-    ap (after (named blocks block) (Some (named blocks other))) (younger-named blocks block earlier up inside later)
-    ∙ after-named blocks block other (younger block earlier) up inside (places-head blocks other earlier places)
-    (places-younger blocks block earlier later)
+    ap (after (named blocks block) (Some (named blocks other)))
+    (after_all-named blocks block earlier first up inside later old)
+    ∙ after-named blocks block other (after_all block earlier first) up inside
+    (places-head blocks other earlier places) (places-after_all blocks block earlier first later old)
+
+-- so does a warm set
+pub warm-named : (start : Start) (blocks : List ℕ) (block : ℕ) (fetches : List (Option ℕ))
+    → IsStrictlyIncreasing blocks → block < length blocks → AreFetchedPlaces blocks fetches
+    → warm start (named blocks block) (map (option_map (named blocks)) fetches)
+    ≡ option_map (map (named blocks)) (warm start block fetches)
+warm-named Empty blocks block fetches up inside places = after_all-named blocks block fetches None up inside places tt
+warm-named Any blocks block fetches up inside places =
+    after_all-named blocks block fetches (Some []) up inside places (λ local there. absurd (omega (arith, there.1)))

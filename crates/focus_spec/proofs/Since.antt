@@ -4,7 +4,7 @@ use Rattle.std.proofs.lemmas.Bool.{cases_eq}
 use Rattle.std.proofs.lemmas.List.Elements.{Contains-append_right}
 use Rattle.std.proofs.lemmas.Option.{none-some}
 use Rattle.set_list.specs.Rising.{Contains-cons}
-use Rattle.focus_spec.specs.Younger.{with_number, younger}
+use Rattle.focus_spec.specs.Younger.{with_number, after, after_all, younger}
 use Rattle.focus_spec.proofs.WithNumber.{Contains-with_number}
 use Rattle.focus_spec.proofs.Renamed.{after-own, after-other}
 
@@ -41,29 +41,66 @@ has-more x newer other set has = (
   ],
 )
 
+-- where the first set of a block is empty and the block isn't fetched, its set has the blocks that are fetched
+pub after_all-fetched : (block : ℕ) (fetches : List (Option ℕ)) → (Contains fetches (Some block) → ⊥)
+    → (set : List ℕ) × (after_all block fetches (Some []) ≡ Some set) × ((other : ℕ) → HasBlocks fetches other set)
+after_all-fetched block [] apart =
+    ([], refl, λ other. (λ there. absurd (omega (arith, there.1)), λ there. absurd (omega (arith, there.1))))
+after_all-fetched block (None ∷ earlier) apart =
+    let later = λ (b : ℕ) (there : Contains earlier (Some b)).
+    Contains-append_right (None ∷ []) earlier (Some b) there in
+    let rest = after_all-fetched block earlier (λ there. apart (later block there)) in (
+      rest.0,
+      rest.1,
+      λ other. (
+        λ there. later other ((rest.2 other).0 there),
+        λ there. elim ((Contains-cons None earlier (Some other)).0 there) [
+          | inl beyond ↦ (rest.2 other).1 beyond
+          | inr same ↦ absurd (none-some other (sym same))
+        ],
+      ),
+    )
+after_all-fetched block (Some x ∷ earlier) apart =
+    let differ : x ≡ block → ⊥ = λ same. apart (0, omega arith, ap (λ n. Some n) same) in
+    let rest = after_all-fetched block earlier
+    (λ there. apart (Contains-append_right (Some x ∷ []) earlier (Some block) there)) in (
+      with_number x rest.0,
+      after-other block x (after_all block earlier (Some [])) differ ∙ ap (option_map (with_number x)) rest.1,
+      λ other. has-more x earlier other rest.0 (rest.2 other),
+    )
+
+-- fetches after others
+after_all-append : (block : ℕ) (newer older : List (Option ℕ)) (first : Option (List ℕ))
+    → after_all block (newer ++ older) first ≡ after_all block newer (after_all block older first)
+after_all-append block [] older first = refl
+after_all-append block (fetch ∷ newer) older first = ap (after block fetch) (after_all-append block newer older first)
+
 -- a younger set has the blocks that were fetched since its block's last fetch
 pub younger-since : (block : ℕ) (newer older : List (Option ℕ)) (set : List ℕ) (other : ℕ)
     → (Contains newer (Some block) → ⊥) → younger block (newer ++ Some block ∷ older) ≡ Some set
     → Contains set other ↔ Contains newer (Some other)
-younger-since block [] older set other apart is =
-    let none = same_some [] set (sym (after-own block block (younger block older) refl) ∙ is) in
-    subst (HasBlocks [] other) none (λ there. absurd (omega (arith, there.1)), λ there. absurd (omega (arith, there.1)))
-younger-since block (None ∷ newer) older set other apart is =
-    let later = λ (b : ℕ) (there : Contains newer (Some b)). Contains-append_right (None ∷ []) newer (Some b) there in
-    let rest = younger-since block newer older set other (λ there. apart (later block there)) is in (
-      λ there. later other (rest.0 there),
-      λ there. elim ((Contains-cons None newer (Some other)).0 there) [
-        | inl beyond ↦ rest.1 beyond
-        | inr same ↦ absurd (none-some other (sym same))
-      ],
-    )
-younger-since block (Some x ∷ newer) older set other apart is =
-    let differ : x ≡ block → ⊥ = λ same. apart (0, omega arith, ap (λ n. Some n) same) in
-    let inner = mapped (with_number x) (younger block (newer ++ Some block ∷ older)) set
-    (sym (after-other block x (younger block (newer ++ Some block ∷ older)) differ) ∙ is) in
-    let rest = younger-since block newer older inner.0 other
-    (λ there. apart (Contains-append_right (Some x ∷ []) newer (Some block) there)) inner.1 in
-    subst (HasBlocks (Some x ∷ newer) other) inner.2 (has-more x newer other inner.0 rest)
+younger-since block newer older set other apart is =
+    let own = after-own block block (younger block older) refl in
+    let fetched = after_all-fetched block newer apart in
+    let known = sym (after_all-append block newer (Some block ∷ older) None ∙ ap (after_all block newer) own) ∙ is in
+    subst (HasBlocks newer other) (same_some fetched.0 set (sym fetched.1 ∙ known)) (fetched.2 other)
+
+-- where there is a younger set, it is the set from any first one
+pub after_all-younger : (block : ℕ) (fetches : List (Option ℕ)) (first : Option (List ℕ)) (set : List ℕ)
+    → younger block fetches ≡ Some set → after_all block fetches first ≡ Some set
+after_all-younger block [] first set is = absurd (none-some set is)
+after_all-younger block (None ∷ earlier) first set is = after_all-younger block earlier first set is
+after_all-younger block (Some x ∷ earlier) first set is =
+    let known = younger block earlier in
+    let from_first = after_all block earlier first in
+    elim (cases_eq x block) [
+      | inl same ↦ after-own block x from_first same ∙ sym (after-own block x known same) ∙ is
+      | inr differ ↦
+          let inner = mapped (with_number x) known set (sym (after-other block x known differ) ∙ is) in
+          after-other block x from_first differ
+          ∙ ap (option_map (with_number x)) (after_all-younger block earlier first inner.0 inner.1)
+          ∙ ap (λ s. Some s) inner.2
+    ]
 
 -- there is none exactly where its block was never fetched
 pub younger-none : (block : ℕ) (fetches : List (Option ℕ))

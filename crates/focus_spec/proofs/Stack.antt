@@ -1,60 +1,27 @@
--- The recency list of a set without its cut, and the younger sets that stand in it.
-use Rattle.std.proofs.Common.{◌≡◌, ℕ, zero, suc, ◌+◌, Bool, true, false, cond, ◌||◌, ◌==◌, if◌then◌else◌, nat_eq, nat_lt, List, [], get_or, ◌∷◌, length, take, map, Contains, Option, Some, None, option_map, refl, sym, ap, subst, ◌∙◌, inl, inr, arith, eq-eqb, eqb-true}
+-- The younger sets and the warm sets that stand in the recency list of a set.
+use Rattle.std.proofs.Common.{◌≡◌, ◌↔◌, ℕ, ◌+◌, true, false, IsTrue, IsFalse, cond, ◌||◌, ◌==◌, nat_eq, nat_lt, List, [], get_or, ◌∷◌, length, take, map, Contains, Option, Some, None, option_map, refl, sym, ap, subst, ◌∙◌, inl, inr, arith, eq-eqb, eqb-true}
 use Rattle.std.proofs.lemmas.Bool.{cases_eq, cases_order, ne_eqb, cases_Bool, both_ways}
 use Rattle.std.proofs.lemmas.Bool.Decides.{nat_tests}
 use Rattle.std.proofs.lemmas.Map.Views.{Contains-from_any}
 use Rattle.std.proofs.lemmas.List.Folds.{list_any_at}
 use Rattle.std.specs.List.Sorted.{IsStrictlyIncreasing}
+use Rattle.cache_spec.specs.declared.start.Start.{Start}
+use Rattle.cache_spec.specs.declared.start.Start.TheVariants.{Empty, Any}
 use Rattle.cache_spec.specs.Contents.{contents}
 use Rattle.cache_spec.specs.Geometry.{Geometry, block_of, set_of}
-use Rattle.cache_spec.specs.Lru.{touch, is_in}
+use Rattle.cache_spec.specs.Lru.{is_in}
 use Rattle.cache_spec.specs.Distinct.{AreDistinct}
-use Rattle.cache_spec.proofs.Distinct.{others, is_in-others, fetched-distinct}
-use Rattle.focus_spec.specs.Younger.{with_number, after, younger, is_small}
 use Rattle.cache_spec.specs.Blocks.{block_in}
+use Rattle.cache_spec.specs.Start.{CanEnd}
+use Rattle.cache_spec.proofs.Distinct.{others, is_in-others, fetched-distinct}
+use Rattle.cache_spec.proofs.Others.{length-others}
+use Rattle.cache_spec.proofs.Stack.{stack, contents-stack}
+use Rattle.cache_spec.proofs.Starts.{may_hold-none, can_hit-any, can_end-empty, can_miss}
+use Rattle.path_model.specs.Best.{best_list}
+use Rattle.focus_spec.specs.Younger.{with_number, after, after_all, younger, first_warm, warm, is_small}
 use Rattle.set_list.specs.RisingSets.{rising-empty}
 use Rattle.focus_spec.proofs.WithNumber.{with_number-below, with_number-first, with_number-above, rising-with_number, with_number-present, length-with_number}
-use Rattle.focus_spec.proofs.Recency.{length-others, take-others, before, is_in-before, before-others}
-
--- all blocks that were fetched, each once, the last fetched first
-abbrev pub stack : List (Option ℕ) → List ℕ
-stack [] = []
-stack (None ∷ earlier) = stack earlier
-stack (Some block ∷ earlier) = block ∷ others (stack earlier) block
-
--- no block stands twice
-pub stack-distinct : (fetches : List (Option ℕ)) → AreDistinct (stack fetches)
-stack-distinct [] = tt
-stack-distinct (None ∷ earlier) = stack-distinct earlier
-stack-distinct (Some block ∷ earlier) = fetched-distinct block (stack earlier) (stack-distinct earlier)
-
--- a fetch makes of the first blocks of a list the first ones after the fetch
-touch-take : (ways block : ℕ) (blocks : List ℕ) → AreDistinct blocks
-    → touch ways (take ways blocks) block ≡ take ways (block ∷ others blocks block)
-touch-take zero block blocks distinct = refl
-touch-take (suc n) block blocks distinct = ap (λ s. block ∷ s) (take-others n block blocks distinct)
-
--- one more fetch, of the set or of another one
-contents-more : (here : Bool) (ways block : ℕ) (kept : List ℕ) (earlier : List (Option ℕ))
-    → kept ≡ take ways (stack earlier)
-    → (if here then touch ways kept block else kept) ≡ take ways (stack ((if here then Some block else None) ∷ earlier))
-contents-more true ways block kept earlier same =
-    ap (λ s. touch ways s block) same ∙ touch-take ways block (stack earlier) (stack-distinct earlier)
-contents-more false ways block kept earlier same = same
-
--- no block is kept of none
-take-none : (n : ℕ) → [] ≡ take {A = ℕ} n []
-take-none zero = refl
-take-none (suc n) = refl
-
--- what a set keeps is the list, cut to its ways
-pub contents-stack : (g : Geometry) (set : ℕ) (addresses : List ℕ)
-    → contents g set addresses ≡ take g.ways (stack (map (block_in g set) addresses))
-contents-stack g set [] = take-none g.ways
-contents-stack g set (address ∷ earlier) =
-    let fetches = map (block_in g set) earlier in
-    let block = block_of g address in
-    contents-more (set_of g block == set) g.ways block (contents g set earlier) fetches (contents-stack g set earlier)
+use Rattle.focus_spec.proofs.Recency.{before, before-first, is_in-before, before-others}
 
 -- a rising list and a list without repeats of the same numbers
 pub record HasSame (set blocks : List ℕ) : Type 0 where
@@ -62,6 +29,10 @@ pub record HasSame (set blocks : List ℕ) : Type 0 where
   pub distinct : AreDistinct blocks
   pub long : length set ≡ length blocks
   pub members : (block : ℕ) → is_in set block ≡ is_in blocks block
+
+-- two empty lists
+same-none : HasSame [] []
+same-none = record { rising = rising-empty; distinct = tt; long = refl; members = λ _. refl }
 
 -- which numbers are in a list with one more
 is_in-with_number : (x y : ℕ) (set : List ℕ) → is_in (with_number x set) y ≡ (y == x || is_in set y)
@@ -142,19 +113,27 @@ AreSame-after : (block other : ℕ) (set : Option (List ℕ)) (blocks : List ℕ
 AreSame-after block other set blocks same = elim (cases_eq other block) [
   | inl is ↦
       let at = eq-eqb other block is in
-      simp at (record { rising = rising-empty; distinct = tt; long = refl; members = λ _. refl })
+      simp at same-none
   | inr apart ↦
       let unlike = ne_eqb other block apart in
       simp (unlike, before-others block other blocks apart) (AreSame-with other set (before block blocks) same)
 ]
 
--- the younger set of a block has the blocks that stand before it
-pub younger-before : (block : ℕ) (fetches : List (Option ℕ))
-    → AreSame (younger block fetches) (before block (stack fetches))
-younger-before block [] = tt
-younger-before block (None ∷ earlier) = younger-before block earlier
-younger-before block (Some other ∷ earlier) =
-    AreSame-after block other (younger block earlier) (stack earlier) (younger-before block earlier)
+-- after some fetches the set of a block has the blocks that stand before it, where the first set did
+pub same-after_all : (block : ℕ) (held : List ℕ) (first : Option (List ℕ)) (fetches : List (Option ℕ))
+    → AreSame first (before block held) → AreSame (after_all block fetches first) (before block (stack held fetches))
+same-after_all block held first [] same = same
+same-after_all block held first (None ∷ earlier) same = same-after_all block held first earlier same
+same-after_all block held first (Some other ∷ earlier) same =
+    AreSame-after block other (after_all block earlier first) (stack held earlier)
+    (same-after_all block held first earlier same)
+
+-- no block stands before one that is held alone
+pub same-warm : (start : Start) (block : ℕ) → AreSame (first_warm start) (before block (best_list start block))
+same-warm Empty block = tt
+same-warm Any block =
+    let first = before-first block block [] (eq-eqb block block refl) in
+    subst (AreSame (Some [])) (sym first) same-none
 
 -- lists of the same numbers are both small or both not
 small-same : (ways : ℕ) (set blocks : Option (List ℕ)) → AreSame set blocks → is_small ways blocks ≡ is_small ways set
@@ -163,24 +142,61 @@ small-same ways None (Some blocks) same = absurd same
 small-same ways (Some set) None same = absurd same
 small-same ways (Some set) (Some blocks) same = ap (λ n. nat_lt n ways) (sym same.long)
 
+-- a block is among the first of the list exactly where its set is small
+is_in-stack : (ways block : ℕ) (held : List ℕ) (first : Option (List ℕ)) (fetches : List (Option ℕ))
+    → AreSame first (before block held)
+    → is_in (take ways (stack held fetches)) block ≡ is_small ways (after_all block fetches first)
+is_in-stack ways block held first fetches same =
+    is_in-before ways block (stack held fetches)
+    ∙ small-same ways (after_all block fetches first) (before block (stack held fetches))
+    (same-after_all block held first fetches same)
+
 -- a block is kept exactly where its younger set is small
 pub is_in-contents : (g : Geometry) (block set : ℕ) (addresses : List ℕ)
-    → is_in (contents g set addresses) block ≡ is_small g.ways (younger block (map (block_in g set) addresses))
+    → is_in (contents g set [] addresses) block ≡ is_small g.ways (younger block (map (block_in g set) addresses))
 is_in-contents g block set addresses =
-    let fetches = map (block_in g set) addresses in
-    ap (λ s. is_in s block) (contents-stack g set addresses)
-    ∙ is_in-before g.ways block (stack fetches)
-    ∙ small-same g.ways (younger block fetches) (before block (stack fetches)) (younger-before block fetches)
+    ap (λ s. is_in s block) (contents-stack g set [] addresses (may_hold-none g set))
+    ∙ is_in-stack g.ways block [] None (map (block_in g set) addresses) tt
+
+-- what these addresses fetch of the set of another one's block
+abbrev pub fetches_in : Geometry → ℕ → List ℕ → List (Option ℕ)
+fetches_in g address addresses = map (block_in g (set_of g (block_of g address))) addresses
+
+-- a fetch can hit exactly where the warm set of its block is small
+pub can_hit-warm : (g : Geometry) (start : Start) (address : ℕ) (earlier : List ℕ)
+    → CanEnd g start (address ∷ earlier) true
+    ↔ IsTrue (is_small g.ways (warm start (block_of g address) (fetches_in g address earlier)))
+can_hit-warm g Empty address earlier =
+    let block = block_of g address in
+    let same = is_in-contents g block (set_of g block) earlier in
+    let can = can_end-empty g (address ∷ earlier) true in
+    (λ hits. sym same ∙ can.0 hits, λ small. can.1 (same ∙ small))
+can_hit-warm g Any address earlier =
+    let block = block_of g address in
+    let fetches = map (block_in g (set_of g block)) earlier in
+    let same = is_in-stack g.ways block (best_list Any block) (first_warm Any) fetches (same-warm Any block) in
+    let can = can_hit-any g address earlier in
+    (λ hits. sym same ∙ can.0 hits, λ small. can.1 (same ∙ small))
+
+-- a fetch can miss exactly where the younger set of its block isn't small
+pub can_miss-younger : (g : Geometry) (start : Start) (address : ℕ) (earlier : List ℕ)
+    → CanEnd g start (address ∷ earlier) false
+    ↔ IsFalse (is_small g.ways (younger (block_of g address) (fetches_in g address earlier)))
+can_miss-younger g start address earlier =
+    let block = block_of g address in
+    let same = is_in-contents g block (set_of g block) earlier in
+    let can = can_miss g start (address ∷ earlier) in
+    (λ misses. sym same ∙ can.0 misses, λ large. can.1 (same ∙ large))
 
 -- a set that has the same numbers as some blocks rises
 rising_from_same : (set : List ℕ) (blocks : Option (List ℕ)) → AreSame (Some set) blocks → IsStrictlyIncreasing set
 rising_from_same set None same = absurd same
 rising_from_same set (Some blocks) same = same.rising
 
--- a younger set rises
-pub rising-younger : (block : ℕ) (fetches : List (Option ℕ)) (set : List ℕ) → younger block fetches ≡ Some set
-    → IsStrictlyIncreasing set
-rising-younger block fetches set is =
-    let standing = before block (stack fetches) in
+-- a warm set rises
+pub rising-warm : (start : Start) (block : ℕ) (fetches : List (Option ℕ)) (set : List ℕ)
+    → warm start block fetches ≡ Some set → IsStrictlyIncreasing set
+rising-warm start block fetches set is =
+    let standing = before block (stack (best_list start block) fetches) in
     rising_from_same set standing (subst (λ (o : Option (List ℕ)). AreSame o standing) is
-    (younger-before block fetches))
+    (same-after_all block (best_list start block) (first_warm start) fetches (same-warm start block)))

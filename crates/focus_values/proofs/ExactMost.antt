@@ -1,41 +1,49 @@
--- The most younger sets are exact too, and absent exactly where a path leaves a large one, or none.
+-- Families whose marks are those of all paths to a node have exactly the most younger sets there too, absent exactly
+-- where a path leaves a large one, or none.
 use Rattle.std.proofs.Common.{◌≡◌, ℕ, ◌<◌, List, length, ltb, Option, Some, None, Contains, inl, inr, refl, subst, ap, ◌∙◌}
 use Rattle.std.proofs.lemmas.Bool.{ltb-true, true_from_ne_false}
 use Rattle.path_model.specs.declared.graph.Node.{Node}
 use Rattle.set_list.specs.SetList.{IsSubset}
 use Rattle.set_list.specs.RisingSets.{same_from_subsets}
-use Rattle.focus_spec.specs.Focus.{Leaves, MayBeLarge, IsMostYounger, AreMost}
+use Rattle.focus_spec.specs.Focus.{younger_after, warm_after, MayBeLarge, IsMostYounger, AreMost}
 use Rattle.focus_values.specs.Marks.{Setting, under, lost}
 use Rattle.focus_values.specs.Families.{AreFit, HasOver}
 use Rattle.focus_values.proofs.Small.{set-rising}
 use Rattle.focus_values.proofs.Meaning.{marks-true, marks_from}
-use Rattle.focus_values.proofs.Outcome.{marks_one, AreWithin}
-use Rattle.focus_values.proofs.Exact.{one-under, under-one, one-lost, lost-one, AreAbove, AreReached, Left, left-local, left-set}
+use Rattle.focus_values.proofs.Outcome.{marks_two, IsLocal, AreWithin}
+use Rattle.focus_values.proofs.Exact.{one-under, under-one, one-lost, lost-one, IsLeft, left-local, left-set, AreAbove, AreReached}
 
-module _ (g : Setting) (nodes : List Node) (within : AreWithin g) (n : ℕ) (least : List (List ℕ)) where
-  -- where they are absent some path leaves a large one or none
-  absent_large : (fit : AreFit g least None) → AreReached g nodes within n least None fit
-      → MayBeLarge nodes g.fetches g.ways g.block n
-  absent_large fit reached =
-      let path = reached lost refl in (
-        Left g nodes within n least None fit path.0,
-        (path.0, path.1, refl),
-        lost-one g
-            (Left g nodes within n least None fit path.0) path.2,
-      )
+module _ (g : Setting) (nodes : List Node) (n : ℕ) (least : List (List ℕ)) where
+  -- the warm set that a path leaves
+  abbrev Warm : List ℕ → Option (List ℕ)
+  Warm earlier = warm_after g.fetches g.start g.block earlier
 
-  module _ (sets : List (List ℕ)) (fit : AreFit g least (Some sets))
-      (above : AreAbove g nodes within n least (Some sets) fit)
-      (reached : AreReached g nodes within n least (Some sets) fit) where
-    -- some path leaves the set
+  -- the younger set that it leaves
+  abbrev Younger : List ℕ → Option (List ℕ)
+  Younger earlier = younger_after g.fetches g.block earlier
+
+  -- where the most sets are absent some path leaves a large younger set or none
+  absent_large : AreReached g nodes n least None → MayBeLarge nodes g.fetches g.ways g.block n
+  absent_large reached =
+      let path = reached lost refl in
+      (Younger path.0, (path.0, path.1, refl), lost-one g (Warm path.0) (Younger path.0) path.2)
+
+  module _ (within : AreWithin g) (sets : List (List ℕ)) (fit : AreFit g least (Some sets))
+      (above : AreAbove g nodes n least (Some sets)) (reached : AreReached g nodes n least (Some sets)) where
+    -- some path leaves the younger set
     abbrev Remains : List ℕ → Type 0
-    Remains set = Leaves nodes g.fetches g.block n (Some set)
+    Remains = IsLeft g nodes n None
+
+    -- then it is local
+    younger-local : (set : List ℕ) → Remains set → IsLocal g set
+    younger-local = left-local g nodes n within None tt
 
     -- where they are there no path leaves a large one or none
     never_large : MayBeLarge nodes g.fetches g.ways g.block n → ⊥
     never_large large =
+        let w : Option (List ℕ) = Warm large.1.0 in
         (marks-true g least (Some sets) lost (above large.1.0 large.1.1 lost
-        (ap (λ (y : Option (List ℕ)). marks_one g y lost) large.1.2 ∙ one-lost g large.0 large.2))).1
+        (ap (λ (y : Option (List ℕ)). marks_two g w y lost) large.1.2 ∙ one-lost g w large.0 large.2))).1
 
     -- so each has few numbers
     few_left : (set : List ℕ) → Remains set → length set < g.ways
@@ -46,25 +54,26 @@ module _ (g : Setting) (nodes : List Node) (within : AreWithin g) (n : ℕ) (lea
     in_most : (set : List ℕ) → Remains set → HasOver sets set
     in_most set left =
         let few = few_left set left in
+        let w : Option (List ℕ) = Warm left.0 in
+        let is = left-set g nodes n within None tt set left few in
         (marks-true g least (Some sets) (under set) (above left.0 left.1 (under set)
-        (ap (λ (y : Option (List ℕ)). marks_one g y (under set)) left.2
-        ∙ one-under g set set few (left-set g nodes within n least (Some sets) fit set left few) (λ x has. has)))).1
+        (ap (λ (y : Option (List ℕ)). marks_two g w y (under set)) left.2
+        ∙ one-under g w set set few is (λ x has. has)))).1
 
     -- a path leaves each of the most
     most_left : (s : List ℕ) → Contains sets s → Remains s
     most_left s there =
         let s_is = fit.most_sets s there in
         let path = reached (under s) (marks_from g least (Some sets) (under s) s_is (s, there, λ x has. has)) in
-        let y : Option (List ℕ) = Left g nodes within n least (Some sets) fit path.0 in
-        elim (under-one g y s path.2) [
-          | inl large ↦ absurd (never_large (y, (path.0, path.1, refl), large))
+        elim (under-one g (Warm path.0) (Younger path.0) s path.2) [
+          | inl large ↦ absurd (never_large (Younger path.0, (path.0, path.1, refl), large))
           | inr one ↦
               let left : Remains one.0 = (path.0, path.1, one.1) in
               let more = in_most one.0 left in
               let is_s = fit.highest s there more.0 more.1 (λ x has. more.2 x (one.3 x has)) in
               let back : IsSubset one.0 s = subst (IsSubset one.0) is_s more.2 in
-              let same = same_from_subsets one.0 s (left-local g nodes within n least (Some sets) fit one.0 left).rising
-              (set-rising g s s_is) back one.3 in
+              let same = same_from_subsets one.0 s (younger-local one.0 left).rising (set-rising g s s_is) back
+              one.3 in
               subst Remains same left
         ]
 
@@ -73,8 +82,7 @@ module _ (g : Setting) (nodes : List Node) (within : AreWithin g) (n : ℕ) (lea
     most_most s there other left subset =
         let more = in_most other left in
         let is_s = fit.highest s there more.0 more.1 (λ x has. more.2 x (subset x has)) in
-        same_from_subsets other s (left-local g nodes within n least (Some sets) fit other left).rising
-        (set-rising g s (fit.most_sets s there))
+        same_from_subsets other s (younger-local other left).rising (set-rising g s (fit.most_sets s there))
         (subst (IsSubset other) is_s more.2) subset
 
     -- the most younger sets are exact
@@ -88,13 +96,11 @@ module _ (g : Setting) (nodes : List Node) (within : AreWithin g) (n : ℕ) (lea
     )
 
 -- absent ones or not
-pub exact_most : (g : Setting) (nodes : List Node) (within : AreWithin g) (n : ℕ) (least : List (List ℕ))
-    (most : Option (List (List ℕ))) (fit : AreFit g least most)
-    → AreAbove g nodes within n least most fit → AreReached g nodes within n least most fit
-    → AreMost nodes g.fetches g.ways g.block n most
-exact_most g nodes within n least None fit above reached = absent_large g nodes within n least fit reached
+pub exact_most : (g : Setting) (nodes : List Node) → AreWithin g → (n : ℕ) (least : List (List ℕ))
+    (most : Option (List (List ℕ))) → AreFit g least most → AreAbove g nodes n least most
+    → AreReached g nodes n least most → AreMost nodes g.fetches g.ways g.block n most
+exact_most g nodes within n least None fit above reached = absent_large g nodes n least reached
 exact_most g nodes within n least (Some sets) fit above reached = (
-  never_large g nodes within n least sets fit above reached,
-  exact_sets g nodes within n least sets fit above
-      reached,
+  never_large g nodes n least within sets fit above reached,
+  exact_sets g nodes n least within sets fit above reached,
 )

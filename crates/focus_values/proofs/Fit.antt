@@ -1,7 +1,11 @@
 -- The families stay fit: small sets of local numbers, none of which is included in another.
 use Rattle.std.proofs.Common.{◌≡◌, ℕ, ◌<◌, true, List, [], ◌∷◌, Option, Some, None, Contains, inl, inr, sym, subst, ◌∙◌, arith}
 use Rattle.std.proofs.lemmas.Bool.{lt-ltb}
+use Rattle.std.specs.Option.{option_to_list}
+use Rattle.cache_spec.specs.declared.start.Start.{Start}
+use Rattle.cache_spec.specs.declared.start.Start.TheVariants.{Empty, Any}
 use Rattle.set_list.specs.Rising.{Contains-cons}
+use Rattle.focus_spec.specs.Younger.{first_warm}
 use Rattle.focus_values.specs.Marks.{Setting, is_set}
 use Rattle.focus_values.specs.Families.{AreSets, AreHighest, AreLowest, AreFit, sets_in, SameSets, SameMost, IsLeastAfter, IsMostAfter, IsLeastJoined, IsMostJoined}
 use Rattle.focus_values.proofs.Small.{with-set}
@@ -15,12 +19,12 @@ none_highest : AreHighest []
 none_highest s there = absurd (omega (arith, there.1))
 
 -- none of no sets is included in another
-none_lowest : AreLowest []
+pub none_lowest : AreLowest []
 none_lowest s there = absurd (omega (arith, there.1))
 
--- and so are those of the start
-pub fit-begin : (g : Setting) → AreFit g [] None
-fit-begin g = record { least_sets = none_sets g; lowest = none_lowest; most_sets = none_sets g; highest = none_highest }
+-- no least sets and absent most sets are fit
+pub fit-none : (g : Setting) → AreFit g [] None
+fit-none g = record { least_sets = none_sets g; lowest = none_lowest; most_sets = none_sets g; highest = none_highest }
 
 -- a family of one set has that set
 pub one_set : (s t : List ℕ) → Contains (t ∷ []) s → s ≡ t
@@ -39,9 +43,28 @@ fit-one g s is = record {
   highest = λ t there u other subset. one_set u s other ∙ sym (one_set t s there);
 }
 
+-- the least sets of some fit families and the most sets of others are fit
+pub fit-both : (g : Setting) (least less : List (List ℕ)) (most more : Option (List (List ℕ))) → AreFit g least most
+    → AreFit g less more → AreFit g least more
+fit-both g least less most more low high = record {
+  least_sets = low.least_sets;
+  lowest = low.lowest;
+  most_sets = high.most_sets;
+  highest = high.highest;
+}
+
 -- the empty set is small
 pub empty_set : (g : Setting) → 0 < g.ways → is_set g [] ≡ true
 empty_set g some = lt-ltb 0 g.ways some
+
+-- the families before the first fetch are fit
+begun-fit : (g : Setting) (start : Start) → 0 < g.ways → AreFit g (option_to_list (first_warm start)) None
+begun-fit g Empty some = fit-none g
+begun-fit g Any some = fit-both g ([] ∷ []) [] (Some ([] ∷ [])) None (fit-one g [] (empty_set g some)) (fit-none g)
+
+-- so are those of the setting's start
+pub fit-begin : (g : Setting) → 0 < g.ways → AreFit g (option_to_list (first_warm g.start)) None
+fit-begin g some = begun-fit g g.start some
 
 -- after a fetch of another block
 after_sets : (g : Setting) (other : ℕ) (most more : Option (List (List ℕ))) → other < g.count

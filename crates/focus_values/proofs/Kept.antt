@@ -4,6 +4,10 @@ use Rattle.std.proofs.Common.{◌≡◌, ℕ, ◌⊎◌, Bool, true, false, ◌&
 use mathlib.Core.Path.{fun_ext}
 use Rattle.std.proofs.lemmas.Bool.{and_parts, and_from, or_cases, or_left, or_right, eq-eqb}
 use Rattle.std.specs.List.{list_any}
+use Rattle.std.specs.Option.{option_to_list}
+use Rattle.cache_spec.specs.declared.start.Start.{Start}
+use Rattle.cache_spec.specs.declared.start.Start.TheVariants.{Empty, Any}
+use Rattle.focus_spec.specs.Younger.{first_warm}
 use Rattle.focus_values.specs.Tests.{same_tests}
 use Rattle.focus_values.specs.Marks.{Setting, Mark, over, under, lost, is_mark, is_fresh, says, marks_of, other_sources, begins}
 use Rattle.focus_values.specs.Families.{AreSets, AreFit, sets_in, SameSets, SameMost, HasUnder, IsLeastJoined, IsMostJoined, AllOver, MostUnder}
@@ -11,14 +15,16 @@ use Rattle.focus_values.proofs.Meaning.{Says, marks-true, marks_from}
 use Rattle.focus_values.proofs.Moved.{moved_by}
 
 -- before the first fetch
-begins_says : (mark : Mark) → says [] None mark ≡ begins mark
-begins_says (over s) = refl
-begins_says (under s) = refl
-begins_says lost = refl
+begins_says : (start : Start) (mark : Mark) → says (option_to_list (first_warm start)) None mark ≡ begins start mark
+begins_says Empty (over s) = refl
+begins_says Any (over s) = refl
+begins_says start (under s) = refl
+begins_says start lost = refl
 
 -- so the families of the start stand for the start
-pub marks-begin : (g : Setting) → marks_of g [] None ≡ (λ (mark : Mark). is_mark g mark && begins mark)
-marks-begin g = fun_ext (λ (mark : Mark). ap (λ (b : Bool). is_mark g mark && b) (begins_says mark))
+pub marks-begin : (g : Setting) → marks_of g (option_to_list (first_warm g.start)) None
+    ≡ (λ (mark : Mark). is_mark g mark && begins g.start mark)
+marks-begin g = fun_ext (λ (mark : Mark). ap (λ (b : Bool). is_mark g mark && b) (begins_says g.start mark))
 
 -- after a fetch of the block itself
 fresh_says : (mark : Mark) → says ([] ∷ []) (Some ([] ∷ [])) mark ≡ (is_fresh mark || false)

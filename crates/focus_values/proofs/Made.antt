@@ -42,7 +42,7 @@ over_of sets most rising is s there =
     let highest = has_highest sets s rising there in
     (highest.0, (is highest.0).1 (highest.1, highest.2), highest.3)
 
--- the least younger sets after a fetch
+-- the least warm sets after a fetch
 pub made_least_after : (other ways : ℕ) (sets more small new : List (List ℕ)) → HasEachWith other sets more
     → ((s : List ℕ) → Contains small s ↔ (Contains more s × (length s < ways))) → AreRising small → HasLeastOf small new
     → IsLeastAfter other ways sets new
@@ -64,7 +64,7 @@ made_most_after other ways sets more new with few rising is = record {
   highest = highest_of more new is;
 }
 
--- the least younger sets where paths meet
+-- the least warm sets where paths meet
 pub made_least_joined : (one two both new : List (List ℕ)) → HasBoth one two both → AreRising both
     → HasLeastOf both new → IsLeastJoined one two new
 made_least_joined one two both new has rising is = record {

@@ -1,4 +1,4 @@
--- What a node makes of the younger sets before it, as a value of the domain.
+-- What a node makes of the sets before it, as a value of the domain.
 use Rattle.std.proofs.Common.{◌≡◌, ℕ, ◌<◌, Bool, List, [], ◌∷◌, Option, Some, None, sym, subst, ap, ◌∙◌}
 use Rattle.focus_spec.specs.Younger.{fetch_at}
 use Rattle.focus_values.specs.declared.values.YoungerSets.{YoungerSets}

@@ -1,4 +1,4 @@
--- The least solution has exactly the least and the most younger sets before each node.
+-- The least solution has exactly the least warm sets and the most younger sets before each node.
 use Rattle.std.proofs.Common.{◌≡◌, ℕ, ◌<◌, Bool, true, List, ◌∷◌, length, map, get_or, Some, sym, subst, ap, ◌∙◌, arith}
 use Rattle.std.specs.Prelude.{slice_get}
 use Rattle.std.specs.List.{All}
@@ -12,6 +12,7 @@ use Rattle.lattice_fix.specs.declared.change.Change.{Change}
 use Rattle.lattice_fix.specs.Solution.{IsSolution, IsLeast}
 use Rattle.lattice_fix.specs.Replay.{Replays, nothing}
 use Rattle.lattice_fix.specs.Along.{along}
+use Rattle.cache_spec.specs.declared.start.Start.{Start}
 use Rattle.set_view.specs.View.{View, IsView}
 use Rattle.focus_values.specs.declared.values.YoungerSets.{YoungerSets}
 use Rattle.focus_values.specs.Marks.{Setting, Mark, marking, framework_of}
@@ -34,10 +35,10 @@ pub record IsSolved (nodes : List Node) (values : List YoungerSets) (changes : L
       → IsPath (graph_step nodes) 0 (n ∷ earlier) → slice_get before n ≡ Some x
       → (framework_of g).below (along (framework_of g) (n ∷ earlier)) x
 
-module _ (view : View) (is : IsView view) (block : ℕ) where
+module _ (view : View) (is : IsView view) (start : Start) (block : ℕ) where
   -- the setting of the view
   abbrev G : Setting
-  G = setting_of view block
+  G = setting_of view start block
 
   -- marks that are those of all paths to a node make families exact
   exact_marks : (n : ℕ) (younger : YoungerSets) → IsFit G younger
@@ -45,13 +46,13 @@ module _ (view : View) (is : IsView view) (block : ℕ) where
       → along (framework_of G) (n ∷ earlier) mark ≡ true → marks_in G younger mark ≡ true)
       → ((mark : Mark) → marks_in G younger mark ≡ true → (earlier : List ℕ) × IsPath (graph_step view.nodes) 0
       (n ∷ earlier) × (along (framework_of G) (n ∷ earlier) mark ≡ true))
-      → IsExact view block n younger
+      → IsExact view start block n younger
   exact_marks n younger fit above reached =
       let some : 0 < G.ways = omega (arith, is.some_ways) in
       let same = λ (earlier : List ℕ). outcome G some is.within n earlier in
-      let over_all : AreAbove G view.nodes is.within n younger.least younger.most fit =
+      let over_all : AreAbove G view.nodes n younger.least younger.most =
       λ earlier path mark has. above earlier path mark (ap (λ (x : Mark → Bool). x mark) (same earlier) ∙ has) in
-      let from_one : AreReached G view.nodes is.within n younger.least younger.most fit =
+      let from_one : AreReached G view.nodes n younger.least younger.most =
       λ mark has. let path = reached mark has in (
         path.0,
         path.1,
@@ -66,7 +67,7 @@ module _ (view : View) (is : IsView view) (block : ℕ) where
   module _ (values : List YoungerSets) (changes : List Change) (solved : IsSolved view.nodes values changes G) where
     -- the value in a place stands for the marks of the paths that end there, and so does a copy of it
     exact_copy : (n : ℕ) (value copy : YoungerSets) → slice_get values n ≡ Some value → IsCopy value copy
-        → IsExact view block n copy
+        → IsExact view start block n copy
     exact_copy n value copy there same =
         let before : List (Mark → Bool) = map (marks_in G) values in
         let x_there : slice_get before n ≡ Some (marks_in G value) = slice_get-map (marks_in G) values n
@@ -82,7 +83,7 @@ module _ (view : View) (is : IsView view) (block : ℕ) where
         (marks_in G value) x_there mark (sym (ap (λ (x : Mark → Bool). x mark) equal) ∙ has))
 
     -- so copies of the values are exact
-    pub exact_copies : (copies : List YoungerSets) → AreCopies values copies → AreExact view block copies
+    pub exact_copies : (copies : List YoungerSets) → AreCopies values copies → AreExact view start block copies
     exact_copies copies same n copy there =
         let inside : n < length values = omega (
           arith,

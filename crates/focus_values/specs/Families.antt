@@ -1,4 +1,4 @@
--- What becomes of the least and of the most younger sets before a node, as families of sets.
+-- What becomes of the least warm sets and of the most younger sets before a node, as families of sets.
 use Rattle.std.specs.Prelude.{◌≡◌, ◌↔◌, ◌⊎◌, ℕ, ◌<◌, ◌≤◌, true, List, [], length, Option, Some, None}
 use Rattle.std.specs.List.{Contains}
 use Rattle.set_list.specs.SetList.{IsSubset}
@@ -22,7 +22,7 @@ AreLowest sets = (s : List ℕ) → Contains sets s → IsMinimal sets s
 abbrev pub AreHighest : List (List ℕ) → Type 0
 AreHighest sets = (s : List ℕ) → Contains sets s → IsMaximal sets s
 
--- families that least and most younger sets can be
+-- families that least warm sets and most younger sets can be
 pub record AreFit (g : Setting) (least : List (List ℕ)) (most : Option (List (List ℕ))) : Type 0 where
   pub least_sets : AreSets g least
   pub lowest : AreLowest least

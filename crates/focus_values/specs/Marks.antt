@@ -1,24 +1,29 @@
--- What the least and the most younger sets before a node stand for, as marks over sets of local numbers: which sets
--- include a younger set, which are included in one, and whether some younger set is large or not there.
+-- What the least warm sets and the most younger sets before a node stand for, as marks over sets of local numbers:
+-- which sets include a warm set, which are included in a younger set, and whether some younger set is large or not
+-- there.
 use Rattle.std.specs.Prelude.{ℕ, ◌+◌, Bool, true, false, ◌&&◌, ◌==◌, not, if◌then◌else◌, nat_lt, List, [], ◌∷◌, ◌++◌, length, map, filter, Option, Some, None}
 use Rattle.std.specs.List.{list_any}
 use Rattle.lattice_fix.specs.Framework.{Framework}
+use Rattle.cache_spec.specs.declared.start.Start.{Start}
+use Rattle.cache_spec.specs.declared.start.Start.TheVariants.{Empty, Any}
 use Rattle.focus_spec.specs.Younger.{fetch_at}
 use Rattle.focus_values.specs.Power.{Marking, power}
 use Rattle.focus_values.specs.Sets.{has, is_within, rises, without, sets_from}
 
--- what each node fetches of a cache set, the block that is looked at, the room of the set, and how many blocks it has
+-- what each node fetches of a cache set, the block that is looked at, the room of the set, how many blocks it has, and
+-- what the cache starts with
 pub record Setting : Type 0 where
   pub fetches : List (Option ℕ)
   pub block : ℕ
   pub ways : ℕ
   pub count : ℕ
+  pub start : Start
 
 -- a small set of blocks: fewer than the cache set has room for
 abbrev pub is_set : Setting → List ℕ → Bool
 is_set g numbers = rises 0 g.count numbers && nat_lt (length numbers) g.ways
 
--- "this set includes a small younger set", "a younger set includes this set, or is large", "one is large or absent"
+-- "this set includes a small warm set", "a younger set includes this set, or is large", "one is large or absent"
 pub data Mark : Type 0 where
   over : List ℕ → Mark
   under : List ℕ → Mark
@@ -38,13 +43,18 @@ all_sets g = sets_from g.count 0
 abbrev pub all_marks : Setting → List Mark
 all_marks g = lost ∷ (map over (all_sets g) ++ map under (all_sets g))
 
--- before the first fetch there is no younger set
-abbrev pub begins : Mark → Bool
-begins (over set) = false
-begins (under set) = true
-begins lost = true
+-- the cache may start with anything
+abbrev pub is_any : Start → Bool
+is_any Empty = false
+is_any Any = true
 
--- after a fetch of the block its younger set is empty
+-- before the first fetch there is no younger set, and the warm set is empty if the cache may start with anything
+abbrev pub begins : Start → Mark → Bool
+begins start (over set) = is_any start
+begins start (under set) = true
+begins start lost = true
+
+-- after a fetch of the block its warm set and its younger set are empty
 abbrev pub is_fresh : Mark → Bool
 is_fresh (over set) = true
 is_fresh (under []) = true
@@ -80,7 +90,7 @@ abbrev pub marking : Setting → Marking Mark
 marking g = record {
   all = all_marks g;
   is_mark = is_mark g;
-  begins = begins;
+  begins = begins g.start;
   always = λ n. always_of g (fetch_at g.fetches n);
   sources = λ n. sources_of g (fetch_at g.fetches n);
 }

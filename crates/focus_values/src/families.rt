@@ -1,4 +1,4 @@
-// What a fetch and a meeting of paths make of the least and of the most younger sets.
+// What a fetch and a meeting of paths make of the least warm sets and of the most younger sets.
 ghost use Rattle.std.specs.Prelude.{ℕ, ◌↔◌, ◌<◌, ◌≤◌, List, length, IfOk, IsTrue, IsFalse};
 ghost use Rattle.std.specs.List.{Contains};
 ghost use Rattle.plain_family.specs.Family.{IsMinimal, IsMaximal};
@@ -43,7 +43,7 @@ fn most_of(sets: &PlainFamily) -> Result<PlainFamily, AllocError>
     sets.maximal()
 }
 
-// The least younger sets after a fetch of another block: with it, as far as they stay small.
+// The least warm sets after a fetch of another block: with it, as far as they stay small.
 pub(crate) fn least_after(
     least: &PlainFamily,
     other: u16,
@@ -85,7 +85,7 @@ fn are_small(sets: &[SetList], ways: u32) -> bool
     true
 }
 
-// The least younger sets where paths meet.
+// The least warm sets where paths meet.
 pub(crate) fn least_joined(one: &PlainFamily, two: &PlainFamily) -> Result<PlainFamily, AllocError>
     ensures { IfOk result (IsLeastJoined one.now two.now) }
 {

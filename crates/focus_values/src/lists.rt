@@ -12,17 +12,19 @@ use crate::families::{
     most_joined,
 };
 use crate::values::YoungerSets;
+use cache_spec::Start;
 use lattice_fix::Domain;
 use plain_family::PlainFamily;
 use set_list::SetList;
 use set_view::SetView;
 use std::alloc::{AllocError, Global};
 
-// The view of a set, and the block whose younger sets are looked for.
+// The view of a set, what the cache starts with, and the block whose sets are looked for.
 #[derive(Drop)]
 pub(crate) struct Lists<'a, 'g> {
     pub(crate) alloc: Global,
     pub(crate) view: &'a SetView<'g>,
+    pub(crate) start: Start,
     pub(crate) block: u16,
 }
 
@@ -48,17 +50,18 @@ impl<'a, 'g> Lists<'a, 'g> {
         other == self.block
     }
 
-    // Before the first fetch there is no younger set.
-    fn begun(&self) -> YoungerSets
-        ensures { AreBegun result }
+    // Before the first fetch there is no younger set, and an empty warm set only where the cache may hold anything.
+    fn begun(&self) -> Result<YoungerSets, AllocError>
+        ensures { IfOk result (AreBegun self.now.start) }
     {
-        YoungerSets {
-            least: PlainFamily::empty(self.alloc),
-            most: None,
-        }
+        let least = match self.start {
+            Start::Empty => PlainFamily::empty(self.alloc),
+            Start::Any => PlainFamily::of(self.alloc, &SetList::empty(self.alloc))?,
+        };
+        Ok(YoungerSets { least, most: None })
     }
 
-    // After a fetch of the block its younger set is empty.
+    // After a fetch of the block its warm set and its younger set are empty.
     fn fresh(&self) -> Result<YoungerSets, AllocError>
         ensures { IfOk result AreFresh }
     {
@@ -71,11 +74,11 @@ impl<'a, 'g> Lists<'a, 'g> {
         })
     }
 
-    // What a node makes of the younger sets before it.
+    // What a node makes of the sets before it.
     fn moved(&self, node: u32, younger: &YoungerSets) -> Result<YoungerSets, AllocError>
-        requires { IsFit (setting_of self.now.view.now self.now.block) younger.now }
-        ensures fits { IfOk result (IsFit (setting_of self.now.view.now self.now.block)) }
-        ensures value { IfOk result (λ moved. let g = setting_of self.now.view.now self.now.block in
+        requires { IsFit (setting_of self.now.view.now self.now.start self.now.block) younger.now }
+        ensures fits { IfOk result (IsFit (setting_of self.now.view.now self.now.start self.now.block)) }
+        ensures value { IfOk result (λ moved. let g = setting_of self.now.view.now self.now.start self.now.block in
             marks_in g moved ≡ (framework_of g).transfer node (marks_in g younger.now)) }
     {
         let ways = self.view.ways();
@@ -98,7 +101,7 @@ pub(crate) fn copy_of_both(alloc: Global, younger: &YoungerSets) -> Result<Young
     Ok(YoungerSets { least, most })
 }
 
-// What a fetch of another block makes of younger sets.
+// What a fetch of another block makes of the sets.
 fn both_after(younger: &YoungerSets, other: u16, ways: u32) -> Result<YoungerSets, AllocError>
     ensures { IfOk result (λ next. IsLeastAfter other ways younger.now.least next.least
         × IsMostAfter other ways younger.now.most next.most) }
@@ -108,7 +111,7 @@ fn both_after(younger: &YoungerSets, other: u16, ways: u32) -> Result<YoungerSet
     Ok(YoungerSets { least, most })
 }
 
-// The younger sets where paths meet.
+// The sets where paths meet.
 fn both_joined(one: &YoungerSets, two: &YoungerSets) -> Result<YoungerSets, AllocError>
     ensures { IfOk result (λ both. IsLeastJoined one.now.least two.now.least both.least
         × IsMostJoined one.now.most two.now.most both.most) }
@@ -118,7 +121,7 @@ fn both_joined(one: &YoungerSets, two: &YoungerSets) -> Result<YoungerSets, Allo
     Ok(YoungerSets { least, most })
 }
 
-// Whether the younger sets say nothing that the others don't.
+// Whether the sets say nothing that the others don't.
 fn are_within(younger: &YoungerSets, others: &YoungerSets) -> bool
     ensures { IsTrue result ↔ (AllOver younger.now.least others.now.least
         × MostUnder younger.now.most others.now.most) }
@@ -137,7 +140,7 @@ impl<'a, 'g> Domain for Lists<'a, 'g> {
 
     ghost Data = { Mark → Bool };
 
-    ghost state = { λ lists. setting_of lists.view.now lists.block };
+    ghost state = { λ lists. setting_of lists.view.now lists.start lists.block };
 
     ghost goes_on = { λ before after. after ≡ before };
 
@@ -152,7 +155,10 @@ impl<'a, 'g> Domain for Lists<'a, 'g> {
     ghost framework = { framework_of };
 
     fn start(&mut self) -> Result<YoungerSets, AllocError> {
-        Ok(self.begun())
+        // The set has room for a block, so that the empty set is small.
+        let ways = self.view.ways();
+        prove!(ways > 0);
+        self.begun()
     }
 
     fn transfer(&mut self, node: u32, younger: &YoungerSets) -> Result<YoungerSets, AllocError> {
@@ -185,5 +191,5 @@ impl<'a, 'g> Domain for Lists<'a, 'g> {
 
     ghost within = { λ g younger fit. marks_within g younger.least younger.most };
 
-    ghost monotone = { λ lists. framework_monotone (setting_of lists.view.now lists.block) };
+    ghost monotone = { λ lists. framework_monotone (setting_of lists.view.now lists.start lists.block) };
 }

@@ -34,7 +34,7 @@ text_from : (ask : Ask) (image : Image) (entry : ℕ) (text other : List ℕ)
     → IsAcceptedWith image entry (λ layers. IsTextFrom ask image entry layers text)
     → IsAcceptedWith image entry (λ layers. IsTextFrom ask image entry layers other) → AreSameFor ask text other
 text_from (Report ask) image entry text other (layers, accepted, are) (layers', accepted', are') =
-    one_report image entry ask.geometry ask.contexts text other are.1 are'.1
+    one_report image entry ask.geometry ask.start ask.contexts text other are.1 are'.1
 text_from Graph image entry text other (layers, accepted, is) (layers', accepted', is') =
     one_graph_text image entry text other is is'
 

@@ -3,7 +3,6 @@ use Rattle.std.proofs.Common.{◌≡◌, ℕ, List, [], ◌∷◌, length, map, 
 use Rattle.std.specs.Prelude.{Result, Ok, Err, IfOk, IfErr}
 use Rattle.std.specs.List.{AllZip}
 use Rattle.elf_spec.specs.Image.{Image}
-use Rattle.cache_spec.specs.Geometry.{Geometry}
 use Rattle.transition_spec.specs.Layer.{all_of}
 use Rattle.flow_spec.specs.Acceptance.{Step, IsAccepted}
 use Rattle.flow_spec.specs.Configuration.{Configuration}
@@ -73,19 +72,19 @@ module _ (image : Image) (entry : ℕ) (ask : ReportAsk) (expanded : Expansion)
   -- right verdicts of all nodes are findings
   pub findings : (nodes : List Node) (verdicts : List Verdict) → nodes ≡ expanded.nodes → IsWithin image
       → length verdicts ≡ length nodes
-      → AreRight nodes ask.geometry verdicts
-      → AreFindings image entry ask.geometry expanded.configurations expanded.nodes verdicts
+      → AreRight nodes ask.geometry ask.start verdicts
+      → AreFindings image entry ask.geometry ask.start expanded.configurations expanded.nodes verdicts
   findings nodes verdicts same within one_each right = record {
     within = within;
     accepted = accepted;
     graph = graph;
     one_each = one_each ∙ ap (λ (ns : List Node). length ns) same;
-    right = subst (λ (ns : List Node). AreRight ns ask.geometry verdicts) same right;
+    right = subst (λ (ns : List Node). AreRight ns ask.geometry ask.start verdicts) same right;
   }
 
   -- all lines are the text that is wanted
   wanted : (verdicts : List Verdict)
-      → AreFindings image entry ask.geometry expanded.configurations expanded.nodes verdicts
+      → AreFindings image entry ask.geometry ask.start expanded.configurations expanded.nodes verdicts
       → HaveFewInAll (node_addresses expanded.nodes) ask.geometry → (Sent : List ℕ → Type 0)
       → SendsAll ask.contexts image expanded verdicts Sent
       → (text : List ℕ) × IsAcceptedWith image entry (λ layers. IsTextFrom (Report ask) image entry layers text)
@@ -97,7 +96,8 @@ module _ (image : Image) (entry : ℕ) (ask : ReportAsk) (expanded : Expansion)
       accepted.1,
       (
         subst (λ (addresses : List ℕ). HaveFewInAll addresses ask.geometry) addresses_same few,
-        report image entry ask.geometry expanded.configurations expanded.nodes verdicts found ask.contexts lines all,
+        report image entry ask.geometry ask.start expanded.configurations expanded.nodes verdicts found ask.contexts
+            lines all,
       ),
     ),
     sent,
@@ -109,16 +109,17 @@ module _ (image : Image) (entry : ℕ) (ask : ReportAsk) (expanded : Expansion)
       (was : settled_as result ≡ Ok kept) (is_now : now ≡ items kept) (same : nodes ≡ expanded.nodes)
       (within : IsWithin image)
       (one_each : IfOk result (λ v. length (items v) ≡ length nodes))
-      (right : IfOk result (λ v. AreRight nodes ask.geometry (items v))) where
+      (right : IfOk result (λ v. AreRight nodes ask.geometry ask.start (items v))) where
     -- its findings are right
-    pub found_now : AreFindings image entry ask.geometry expanded.configurations expanded.nodes now
+    pub found_now : AreFindings image entry ask.geometry ask.start expanded.configurations expanded.nodes now
     found_now =
         let found = settled_ok result kept was in
-        subst (λ (vs : List Verdict). AreFindings image entry ask.geometry expanded.configurations expanded.nodes vs)
+        subst (λ (vs : List Verdict). AreFindings image entry ask.geometry ask.start expanded.configurations
+        expanded.nodes vs)
         (sym is_now)
         (findings nodes (items kept) same within (ok_at (λ v. length (items v) ≡ length nodes) result kept found
         one_each)
-        (ok_at (λ v. AreRight nodes ask.geometry (items v)) result kept found right))
+        (ok_at (λ v. AreRight nodes ask.geometry ask.start (items v)) result kept found right))
 
     -- and their lines are the text that is wanted
     pub wanted_now : IfOk result (λ v. HaveFewInAll (node_addresses nodes) ask.geometry) → (Sent : List ℕ → Type 0)

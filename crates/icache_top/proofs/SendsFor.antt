@@ -8,8 +8,6 @@ use Rattle.elf_spec.specs.declared.fault.ElfFault.{ElfFault}
 use Rattle.elf_spec.specs.declared.fault.ElfFault.TheVariants as elf
 use Rattle.flow_spec.specs.declared.fault.FlowFault.{FlowFault}
 use Rattle.flow_spec.specs.declared.fault.FlowFault.TheVariants as flow
-use Rattle.flow_spec.specs.Acceptance.{IsRefused}
-use Rattle.flow_spec.specs.Successors.{successors}
 use Rattle.node_verdicts.specs.ViewFault.{ViewFault}
 use Rattle.node_verdicts.specs.ViewFault.TheVariants as faults
 use Rattle.command_spec.specs.declared.settings.Settings.{Settings}

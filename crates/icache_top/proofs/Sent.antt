@@ -62,8 +62,8 @@ module _ (contexts : Bool) (image : Image) (expanded : Expansion) (verdicts : Li
   -- there are lines from each cursor on
   there : (cursor : Option ℕ) → (lines : List Line) × AreAllFrom At cursor lines
   there cursor =
-      let (entry, g, findings) = found in
-      rest image entry g expanded.configurations expanded.nodes verdicts findings contexts cursor
+      let (entry, g, start, findings) = found in
+      rest image entry g start expanded.configurations expanded.nodes verdicts findings contexts cursor
 
   -- a prefix of what stands before a cursor was sent
   part_before : (a c : Option (List ℕ)) (head : List Line) (cursor : Option ℕ) → AreAllBefore At cursor head
@@ -95,8 +95,8 @@ module _ (contexts : Bool) (image : Image) (expanded : Expansion) (verdicts : Li
 -- the verdicts that were found are valid
 pub found_valid : (image : Image) (expanded : Expansion) (verdicts : List Verdict) → AreFound image expanded verdicts
     → list_all is_valid_verdict verdicts ≡ true
-found_valid image expanded verdicts (entry, g, found) =
-    right_valid expanded.nodes g verdicts (λ n below. found.right n (omega (arith, below, found.one_each)))
+found_valid image expanded verdicts (entry, g, start, found) =
+    right_valid expanded.nodes g start verdicts (λ n below. found.right n (omega (arith, below, found.one_each)))
 
 -- what holds anyway holds of an error
 pub err_of : {V E : Type 0} {P : Type 0} (r : Result V E) → P → OnErr r P

@@ -48,7 +48,7 @@ addresses_of layers = map (λ (c : Configuration). c.at) (all_of layers)
 -- text of the graph
 abbrev pub IsTextFrom : Ask → Image → ℕ → List (List Configuration) → List ℕ → Type 0
 IsTextFrom (Report ask) image entry layers text =
-    HaveFewInAll (addresses_of layers) ask.geometry × IsReport image entry ask.geometry ask.contexts text
+    HaveFewInAll (addresses_of layers) ask.geometry × IsReport image entry ask.geometry ask.start ask.contexts text
 IsTextFrom Graph image entry layers text = IsGraphText image entry text
 
 -- a set has too many fetched blocks for what is asked for: the first such one, and this many

@@ -3,6 +3,7 @@ use Rattle.std.specs.Prelude.{◌≡◌, ◌⊎◌, ℕ, ◌-◌, ◌^◌, Bool,
 use Rattle.byte_port.specs.declared.Sink.{Ghosts}
 use Rattle.elf_spec.specs.Image.{Image}
 use Rattle.cache_spec.specs.Geometry.{Geometry}
+use Rattle.cache_spec.specs.declared.start.Start.{Start}
 use Rattle.call_expand.specs.Expansion.{Expansion}
 use Rattle.report_spec.specs.declared.line.Line.{Line}
 use Rattle.report_spec.specs.declared.line.Verdict.{Verdict}
@@ -15,7 +16,8 @@ use Rattle.report_lines.specs.Lines.{Stands, AreAllBefore, AreAllFrom}
 -- the verdicts are right of an expanded program
 abbrev pub AreFound : Image → Expansion → List Verdict → Type 0
 AreFound image expanded verdicts =
-    (entry : ℕ) × (g : Geometry) × AreFindings image entry g expanded.configurations expanded.nodes verdicts
+    (entry : ℕ) × (g : Geometry) × (start : Start) × AreFindings image entry g start expanded.configurations
+    expanded.nodes verdicts
 
 -- which line stands at a cursor
 abbrev pub StandsAt : Bool → Image → Expansion → List Verdict → ℕ → Option (Line × Option ℕ) → Type 0

@@ -23,7 +23,7 @@ const START: [u8; 68] = [
 const FLAGS: [u8; 8] = [5, 0, 0, 0, 4, 0, 0, 0];
 
 const USAGE: &str = "icache: usage
-  icache classify [--line N] [--sets N] [--ways N] [--workers N] [--nodes N] [--entry 0xN] [--contexts]
+  icache classify [--line N] [--sets N] [--ways N] [--workers N] [--nodes N] [--entry 0xN] [--contexts] [--start empty|any]
   icache graph [--entry 0xN]
   icache sample --number N [--size N] [--line N] [--sets N] [--ways N] [--workers N] [--nodes N]
 ";

@@ -150,7 +150,7 @@ fn classify<O: Sink>(
     ensures memory { KeepsMemoryApart (status_of result) }
 {
     let expanded = expand(alloc, image, entry)?;
-    let verdicts = settled(node_verdicts(alloc, expanded.graph(), &ask.geometry))?;
+    let verdicts = settled(node_verdicts(alloc, expanded.graph(), &ask.geometry, ask.start))?;
     let found = Findings {
         image,
         expanded: &expanded,

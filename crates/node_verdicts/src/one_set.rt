@@ -7,7 +7,7 @@ ghost use Rattle.path_model.specs.Graph.{addresses_of};
 
 use cache_geom::Geometry;
 use focus_plain::{Classification, Judged, judge};
-use path_model::Graph;
+use path_model::{Graph, Start};
 use report_spec::Verdict;
 use set_view::{SetView, ViewFault, view};
 use std::alloc::{AllocError, Global};
@@ -17,6 +17,7 @@ pub(crate) fn judge_set(
     alloc: Global,
     graph: &Graph,
     geometry: &Geometry,
+    start: Start,
     set: u32,
     marked: bool,
     verdicts: &mut Vec<Verdict>,
@@ -24,8 +25,8 @@ pub(crate) fn judge_set(
     requires set { set < geometry.now.sets }
     requires marked { marked ≡ false → IsUnfetched graph.now geometry.now set }
     requires one_each { length verdicts.old.items ≡ length graph.now }
-    ensures keeps { KeepRight graph.now geometry.now verdicts.old.items verdicts.new.items }
-    ensures right { OnOk result (AreRightIn graph.now geometry.now set verdicts.new.items) }
+    ensures keeps { KeepRight graph.now geometry.now start verdicts.old.items verdicts.new.items }
+    ensures right { OnOk result (AreRightIn graph.now geometry.now start set verdicts.new.items) }
     ensures few { OnOk result (HaveFew (addresses_of graph.now) geometry.now set) }
     ensures fault { IfErr result (λ fault. IsFault graph.now geometry.now set fault) }
 {
@@ -33,7 +34,7 @@ pub(crate) fn judge_set(
         return Ok(());
     }
     let view = view(alloc, graph, geometry, set)?;
-    judge_blocks(alloc, &view, verdicts)?;
+    judge_blocks(alloc, &view, start, verdicts)?;
     Ok(())
 }
 
@@ -41,15 +42,16 @@ pub(crate) fn judge_set(
 fn judge_blocks(
     alloc: Global,
     view: &SetView,
+    start: Start,
     verdicts: &mut Vec<Verdict>,
 ) -> Result<(), AllocError>
     requires view { IsView view.now }
     requires one_each { length verdicts.old.items ≡ length view.now.nodes }
-    ensures keeps { KeepRight view.now.nodes view.now.geometry verdicts.old.items verdicts.new.items }
-    ensures right { OnOk result (AreRightBelow view.now (length view.now.blocks) verdicts.new.items) }
+    ensures keeps { KeepRight view.now.nodes view.now.geometry start verdicts.old.items verdicts.new.items }
+    ensures right { OnOk result (AreRightBelow view.now start (length view.now.blocks) verdicts.new.items) }
 {
     for block in 0..view.blocks().len() as u16 {
-        judge_block(alloc, view, block, verdicts)?;
+        judge_block(alloc, view, block, start, verdicts)?;
     }
     Ok(())
 }
@@ -59,15 +61,16 @@ fn judge_block(
     alloc: Global,
     view: &SetView,
     block: u16,
+    start: Start,
     verdicts: &mut Vec<Verdict>,
 ) -> Result<(), AllocError>
     requires view { IsView view.now }
     requires block { block < length view.now.blocks }
     requires one_each { length verdicts.old.items ≡ length view.now.nodes }
-    ensures keeps { KeepRight view.now.nodes view.now.geometry verdicts.old.items verdicts.new.items }
-    ensures right { OnOk result (AreRightOf view.now block verdicts.new.items) }
+    ensures keeps { KeepRight view.now.nodes view.now.geometry start verdicts.old.items verdicts.new.items }
+    ensures right { OnOk result (AreRightOf view.now start block verdicts.new.items) }
 {
-    let mut found = judge(alloc, view, block)?;
+    let mut found = judge(alloc, view, block, start)?;
     while let Some(judged) = found.pop() {
         note(verdicts, judged);
     }

@@ -6,6 +6,7 @@ use Rattle.std.proofs.lemmas.Bool.{cases_lt}
 use Rattle.list_lemmas.proofs.Members.{has-first, has-later, each-has}
 use Rattle.elf_spec.specs.Image.{Image}
 use Rattle.cache_spec.specs.Geometry.{Geometry}
+use Rattle.cache_spec.specs.declared.start.Start.{Start}
 use Rattle.report_spec.specs.declared.line.Line.{Line}
 use Rattle.report_spec.specs.declared.line.Line.TheVariants.{At, Context, Unreachable}
 use Rattle.report_spec.specs.declared.line.Verdict.{Verdict}
@@ -70,20 +71,21 @@ greatest_after first last (At at verdict ∷ lines) greatest = greatest
 greatest_after first last (Context node at depth back verdict ∷ lines) greatest = greatest
 greatest_after first last (Unreachable next end ∷ lines) greatest = greatest.1
 
-module _ (image : Image) (entry : ℕ) (g : Geometry) where
+module _ (image : Image) (entry : ℕ) (g : Geometry) (start : Start) where
   -- each line is right
   abbrev AreRight : List Line → Type 0
-  AreRight lines = AllByRecursion (IsRightLine image entry g) lines
+  AreRight lines = AllByRecursion (IsRightLine image entry g start) lines
 
   -- no line stands at an address that no path reaches
   not_reached : (p at : ℕ) (verdict : Verdict) → IsUnreached image entry p → p ≡ at
-      → IsRight image entry g (IsAt at) verdict → ⊥
+      → IsRight image entry g start (IsAt at) verdict → ⊥
   not_reached p at verdict unreached same right =
-      let (addresses, fetched) = reached image entry g (IsAt at) verdict right in
+      let (addresses, fetched) = reached image entry g start (IsAt at) verdict right in
       subst (λ q. IsUnreached image entry q) same unreached addresses fetched
 
   -- a line by address has a first address
-  some_address : (line : Line) (lines : List Line) → IsRightLine image entry g line → listed (line ∷ lines) ≡ [] → ⊥
+  some_address : (line : Line) (lines : List Line) → IsRightLine image entry g start line
+      → listed (line ∷ lines) ≡ [] → ⊥
   some_address (At at verdict) lines right none = absurd (cc none)
   some_address (Context node at depth back verdict) lines right none = right
   some_address (Unreachable first last) lines right none =
@@ -111,7 +113,8 @@ module _ (image : Image) (entry : ℕ) (g : Geometry) where
   -- a range isn't shorter than another that begins with it, where both lists go on alike
   not_shorter : (first last end : ℕ) (lines others : List Line) → AreGreatest (Unreachable first last ∷ lines)
       → AreRight lines
-      → IsRightLine image entry g (Unreachable first last) → IsRightLine image entry g (Unreachable first end)
+      → IsRightLine image entry g start (Unreachable first last)
+      → IsRightLine image entry g start (Unreachable first end)
       → listed (Unreachable first last ∷ lines) ≡ listed (Unreachable first end ∷ others)
       → words_in first last < words_in first end → ⊥
   not_shorter first last end lines others greatest right range other same shorter =
@@ -132,7 +135,8 @@ module _ (image : Image) (entry : ℕ) (g : Geometry) where
   -- two ranges that begin alike are one
   one_range : (first last end : ℕ) (lines others : List Line) → AreGreatest (Unreachable first last ∷ lines)
       → AreGreatest (Unreachable first end ∷ others) → AreRight lines → AreRight others
-      → IsRightLine image entry g (Unreachable first last) → IsRightLine image entry g (Unreachable first end)
+      → IsRightLine image entry g start (Unreachable first last)
+      → IsRightLine image entry g start (Unreachable first end)
       → listed (Unreachable first last ∷ lines) ≡ listed (Unreachable first end ∷ others) → last ≡ end
   one_range first last end lines others greatest greatest' right right' range range' same =
       let no_less : words_in first last < words_in first end → ⊥ =
@@ -158,8 +162,8 @@ module _ (image : Image) (entry : ℕ) (g : Geometry) where
 
   -- a line of a word and a range don't begin alike
   word_and_range : (at : ℕ) (verdict : Verdict) (first last : ℕ) (lines others : List Line)
-      → IsRight image entry g (IsAt at) verdict
-      → IsRightLine image entry g (Unreachable first last)
+      → IsRight image entry g start (IsAt at) verdict
+      → IsRightLine image entry g start (Unreachable first last)
       → listed (At at verdict ∷ lines) ≡ listed (Unreachable first last ∷ others) → ⊥
   word_and_range at verdict first last lines others right range same =
       let opened : at ∷ listed lines ≡ first ∷ (words_from (first + 4) ((last - first) / 4) ++ listed others) =
@@ -207,10 +211,10 @@ module _ (image : Image) (entry : ℕ) (g : Geometry) where
   alike (At at verdict ∷ lines) (At at' verdict' ∷ others) right right' greatest greatest' same =
       let one : at' ≡ at = cc same in
       let rest : listed lines ≡ listed others = cc same in
-      let here : IsRight image entry g (IsAt at) verdict' =
-      subst (λ p. IsRight image entry g (IsAt p) verdict') one right'.0 in
+      let here : IsRight image entry g start (IsAt at) verdict' =
+      subst (λ p. IsRight image entry g start (IsAt p) verdict') one right'.0 in
       let said : verdict_alone verdict ≡ verdict_alone verdict' =
-      one_verdict image entry g (IsAt at) verdict verdict' right.0 here in
+      one_verdict image entry g start (IsAt at) verdict verdict' right.0 here in
       let later : AreAlike lines others = alike lines others right.1 right'.1 greatest greatest' rest in
       cc (one, said, later)
   alike (At at verdict ∷ lines) (Unreachable first last ∷ others) right right' greatest greatest' same =
@@ -229,7 +233,8 @@ module _ (image : Image) (entry : ℕ) (g : Geometry) where
       cc (one, ends, later)
 
   -- two reports by address are alike
-  pub by_address : (lines others : List Line) → AreByAddress image entry g lines → AreByAddress image entry g others
+  pub by_address : (lines others : List Line) → AreByAddress image entry g start lines
+      → AreByAddress image entry g start others
       → AreAlike lines others
   by_address lines others are are' =
       let same : listed lines ≡ listed others = same_rising (listed lines) (listed others) are.rising are'.rising

@@ -6,6 +6,7 @@ use Rattle.std.proofs.lemmas.Bool.{and_from, le-leb}
 use Rattle.std.proofs.lemmas.Bool.Decides.{nat_tests}
 use Rattle.elf_spec.specs.Image.{Image}
 use Rattle.cache_spec.specs.Geometry.{Geometry}
+use Rattle.cache_spec.specs.declared.start.Start.{Start}
 use Rattle.transition_spec.specs.declared.way.Way.{Way}
 use Rattle.transition_spec.specs.Named.{Names}
 use Rattle.flow_spec.specs.declared.frame.Frame.{Frame}
@@ -39,9 +40,9 @@ frames_valid (frame ∷ []) = refl
 frames_valid (frame ∷ next ∷ frames) =
     deeper (length frames) (option_map (λ frame. frame.back) (newest (next ∷ frames))) (frames_valid (next ∷ frames))
 
-module _ (image : Image) (entry : ℕ) (g : Geometry) where
+module _ (image : Image) (entry : ℕ) (g : Geometry) (start : Start) where
   -- a way to a fate is valid
-  named_valid : (Ends : Configuration → Type 0) (way : Way) (hits : Bool) → NamesFate image entry g Ends way hits
+  named_valid : (Ends : Configuration → Type 0) (way : Way) (hits : Bool) → NamesFate image entry g start Ends way hits
       → is_valid_way way ≡ true
   named_valid Ends way hits named =
       let P : List Configuration → Type 0 = λ path. Names (successors image entry) way path in
@@ -49,7 +50,7 @@ module _ (image : Image) (entry : ℕ) (g : Geometry) where
       (subst P named.ends_in.path_is named.names)
 
   -- a right verdict is valid
-  verdict_valid : (Ends : Configuration → Type 0) (verdict : Verdict) → IsRight image entry g Ends verdict
+  verdict_valid : (Ends : Configuration → Type 0) (verdict : Verdict) → IsRight image entry g start Ends verdict
       → is_valid_verdict verdict ≡ true
   verdict_valid Ends AlwaysHit right = refl
   verdict_valid Ends AlwaysMiss right = refl
@@ -58,7 +59,7 @@ module _ (image : Image) (entry : ℕ) (g : Geometry) where
       (named_valid Ends miss false right.1)
 
   -- right lines by address are valid
-  pub address_lines_valid : (lines : List Line) → AllByRecursion (IsRightLine image entry g) lines
+  pub address_lines_valid : (lines : List Line) → AllByRecursion (IsRightLine image entry g start) lines
       → list_all is_valid lines ≡ true
   address_lines_valid [] right = refl
   address_lines_valid (At at verdict ∷ lines) right =
@@ -70,7 +71,7 @@ module _ (image : Image) (entry : ℕ) (g : Geometry) where
       (address_lines_valid lines right.1)
 
   -- the line of a configuration is valid
-  context_line_valid : (number : ℕ) (c : Configuration) (line : Line) → IsContextLine image entry g number c line
+  context_line_valid : (number : ℕ) (c : Configuration) (line : Line) → IsContextLine image entry g start number c line
       → is_valid line ≡ true
   context_line_valid number c (At at verdict) is = absurd is
   context_line_valid number c (Unreachable first last) is = absurd is
@@ -80,7 +81,7 @@ module _ (image : Image) (entry : ℕ) (g : Geometry) where
 
   -- so are those of all configurations
   pub context_lines_valid : (number : ℕ) (configurations : List Configuration) (lines : List Line)
-      → AreContextLines image entry g number configurations lines → list_all is_valid lines ≡ true
+      → AreContextLines image entry g start number configurations lines → list_all is_valid lines ≡ true
   context_lines_valid number [] [] are = refl
   context_lines_valid number [] (line ∷ lines) are = absurd are
   context_lines_valid number (c ∷ later) [] are = absurd are

@@ -1,8 +1,11 @@
 // What is the same of every answer to a program.
-ghost use Rattle.std.specs.Prelude.{◌≡◌, ◌↔◌, ◌⊎◌, ℕ, Bool, List};
+ghost use Rattle.std.specs.Prelude.{◌≡◌, ◌↔◌, ◌⊎◌, ℕ, Bool, IsTrue, IsFalse, List};
 ghost use Rattle.std.specs.List.{AllByRecursion};
 ghost use Rattle.elf_spec.specs.Image.{Image};
+ghost use Rattle.cache_spec.specs.declared.start.Start.{Start};
+ghost use Rattle.cache_spec.specs.Contents.{ends_in_hit};
 ghost use Rattle.cache_spec.specs.Geometry.{Geometry};
+ghost use Rattle.cache_spec.specs.Verdict.{IsAlwaysHit, IsAlwaysMiss};
 ghost use Rattle.transition_spec.specs.declared.way.Way.{Way};
 ghost use Rattle.transition_spec.specs.Layer.{all_of};
 ghost use Rattle.transition_spec.specs.Named.{Names};
@@ -19,8 +22,10 @@ ghost use Rattle.report_spec.specs.Report.{IsReport};
 ghost use Rattle.report_spec.specs.Text.{text_of};
 ghost use Rattle.one_answer.specs.Alike.{AreAlike, AreAlikeTexts};
 
-/// A program is accepted or refused, and not both, with one numbering or one fault; and no set has too many blocks, or one
-/// set is the first that has, and not both.
+use cache_spec::start_laws;
+
+/// A program is accepted or refused, and not both, with one numbering or one fault; and no set has too many blocks, or
+/// one set is the first that has, and not both.
 pub fn one_answer()
     ensures accepted_or_refused { (step : Step) (image : Image) (entry : ℕ)
         → ((layers : List (List Configuration)) × IsAccepted step image entry layers)
@@ -39,21 +44,40 @@ pub fn one_answer()
         → HaveMany addresses g set count → HaveMany addresses g other number → (set ≡ other) × (count ≡ number) }
 {}
 
-/// A way names at most one path of a program, so that an unknown line tells which path hits and which one misses.
+/// A way names at most one path of a program, so that an unknown line tells which path can hit and which one can miss.
 pub fn one_path()
     ensures { (image : Image) (entry : ℕ) (way : Way) (path other : List Configuration)
         → IsPath (successors image entry) (start_of entry) path → IsPath (successors image entry) (start_of entry) other
         → Names (successors image entry) way path → Names (successors image entry) way other → path ≡ other }
 {}
 
-/// The program and the geometry determine all of a report but the ways of its unknown lines, and the program all of the
-/// text of a graph.
+/// The program, the geometry and the start determine all of a report but the ways of its unknown lines, and the program
+/// all of the text of a graph.
 pub fn one_text()
-    ensures report { (image : Image) (entry : ℕ) (g : Geometry) (contexts : Bool) (text other : List ℕ)
-        → IsReport image entry g contexts text → IsReport image entry g contexts other → AreAlikeTexts text other }
+    ensures report { (image : Image) (entry : ℕ) (g : Geometry) (start : Start) (contexts : Bool) (text other : List ℕ)
+        → IsReport image entry g start contexts text → IsReport image entry g start contexts other
+        → AreAlikeTexts text other }
     ensures graph { (image : Image) (entry : ℕ) (text other : List ℕ)
         → IsGraphText image entry text → IsGraphText image entry other → text ≡ other }
 {}
+
+/// A set of paths, each given as the addresses that it fetches. It is a trait since no clause can range over all sets.
+pub trait Paths {
+    ghost fetches: { List ℕ → Type 0 };
+}
+
+/// With an empty cache at the start, a set of paths always hits, or always misses, exactly where it has a path and each
+/// of its paths hits, or misses: each can only do what it does there.
+pub fn empty_start<P: Paths>()
+    ensures always_hit { (g : Geometry) → IsAlwaysHit g Start.Empty P.fetches
+        ↔ (((addresses : List ℕ) × P.fetches addresses)
+        × ((addresses : List ℕ) → P.fetches addresses → IsTrue (ends_in_hit g addresses))) }
+    ensures always_miss { (g : Geometry) → IsAlwaysMiss g Start.Empty P.fetches
+        ↔ (((addresses : List ℕ) × P.fetches addresses)
+        × ((addresses : List ℕ) → P.fetches addresses → IsFalse (ends_in_hit g addresses))) }
+{
+    start_laws();
+}
 
 /// Lines are read from their text in one way, where they are valid and their numbers fit, as those of the code do. So
 /// two texts are alike exactly where the lines that are read from them agree in all but their ways.

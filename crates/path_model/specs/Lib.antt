@@ -4,3 +4,4 @@ pub mod Graph
 pub mod Marks
 pub mod Letters
 pub mod Follow
+pub mod Best

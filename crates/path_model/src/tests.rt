@@ -1,4 +1,6 @@
-use crate::{Graph, Node, choice_laws, choices_of, ends_in_hit, follow, graph_laws};
+use crate::{
+    Graph, Node, Start, can_hit, choice_laws, choices_of, ends_in_hit, follow, graph_laws,
+};
 use cache_geom::Geometry;
 use std::alloc::{AllocError, Global};
 use std::test::Fail;
@@ -81,6 +83,42 @@ fn a_path_ends_in_a_hit_where_its_block_is_still_kept(rt: HostRuntime) -> Result
     assert!(rt; ends_in_hit(&graph, &geometry, &[0, 1, 0]));
     assert!(rt; !ends_in_hit(&graph, &geometry, &[0, 1, 2]));
     assert!(rt; !ends_in_hit(&graph, &geometry, &[]));
+    Ok(())
+}
+
+#[test]
+fn a_path_can_hit_where_its_block_may_still_be_kept(rt: HostRuntime) -> Result<(), Fail> {
+    let graph = graph_of(rt.alloc(), &LOOP)?.expect(&rt, "a graph");
+    let geometry = Geometry::new(4, 1, 2).expect(&rt, "in range");
+    for (path, from_empty, from_any) in [
+        ([].as_slice(), false, false),
+        ([0].as_slice(), false, true),
+        ([0, 1].as_slice(), false, true),
+        ([0, 1, 0].as_slice(), true, true),
+        // The two blocks fetched before fill the set.
+        ([0, 1, 2].as_slice(), false, false),
+    ] {
+        assert_eq!(rt;
+            can_hit(&graph, &geometry, Start::Empty, path),
+            from_empty,
+            "{path:?}"
+        );
+        assert_eq!(rt;
+            can_hit(&graph, &geometry, Start::Any, path),
+            from_any,
+            "{path:?}"
+        );
+    }
+    Ok(())
+}
+
+#[test]
+fn only_fetches_of_its_set_push_a_block_out(rt: HostRuntime) -> Result<(), Fail> {
+    let graph = graph_of(rt.alloc(), &LOOP)?.expect(&rt, "a graph");
+    // The words at 0x10000 and 0x10008 share a set of one way.
+    let geometry = Geometry::new(4, 2, 1).expect(&rt, "in range");
+    assert!(rt; can_hit(&graph, &geometry, Start::Any, &[0, 1]));
+    assert!(rt; !can_hit(&graph, &geometry, Start::Any, &[0, 1, 2]));
     Ok(())
 }
 

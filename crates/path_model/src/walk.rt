@@ -1,15 +1,18 @@
 // The paths of a graph from node 0, first member first.
-ghost use Rattle.std.specs.Prelude.{◌≡◌, ◌==◌, ◌++◌, ◌<◌, if◌then◌else◌, map, reverse, slice_get, IfOk, OnOk};
+ghost use Rattle.std.specs.Prelude.{◌≡◌, ◌==◌, ◌++◌, ◌<◌, ◌↔◌, true, if◌then◌else◌, map, reverse, slice_get, IsTrue, IfOk, OnOk};
 ghost use Rattle.std.specs.Option.{option_to_list};
 ghost use Rattle.transition_spec.specs.Path.{IsPath, HasChoices};
 ghost use Rattle.cache_spec.specs.Geometry.{block_of, set_of};
 ghost use Rattle.cache_spec.specs.Lru.{touch};
 ghost use Rattle.cache_spec.specs.Contents.{contents, ends_in_hit};
 ghost use Rattle.path_model.specs.Graph.{graph_step, address_of};
+ghost use Rattle.cache_spec.specs.Start.{CanEnd};
+ghost use Rattle.path_model.specs.Best.{best_list, ends_in_best_hit};
 ghost use Rattle.path_model.specs.Letters.{letter_to};
 
 use crate::{Graph, Node};
 use cache_geom::{Geometry, LruSet};
+use cache_spec::{Start, start_laws};
 use std::alloc::{AllocError, Global};
 
 /// Tells whether the last fetch of a path hits, where the cache is empty at first. A path of no members has no hit, and
@@ -19,14 +22,52 @@ use std::alloc::{AllocError, Global};
 pub fn ends_in_hit(graph: &Graph, geometry: &Geometry, path: &[u32]) -> bool
     ensures { result ≡ ends_in_hit geometry.now (map (address_of graph.now) (reverse path.now)) }
 {
+    hits_from(graph.nodes(), geometry, Start::Empty, path)
+}
+
+/// Tells whether the last fetch of a path can hit, where the cache starts so: whether there are blocks that its set may
+/// hold at first with which it hits. A path of no members can't hit, and a number that no node has fetches address 0.
+///
+/// It runs one LRU set over the fetches of the last member's set. Takes no memory.
+pub fn can_hit(graph: &Graph, geometry: &Geometry, start: Start, path: &[u32]) -> bool
+    ensures { IsTrue result ↔ CanEnd geometry.now start (map (address_of graph.now) (reverse path.now)) true }
+{
+    start_laws();
+    // The law asks for room for a block, which each geometry has.
+    let ways = geometry.ways();
+    prove!(ways >= 1);
+    hits_from(graph.nodes(), geometry, start, path)
+}
+
+// Tells whether the last fetch hits, where its set starts with what is best for a hit.
+fn hits_from(nodes: &[Node], geometry: &Geometry, start: Start, path: &[u32]) -> bool
+    ensures { result ≡ ends_in_best_hit geometry.now start (map (address_of nodes.now) (reverse path.now)) }
+{
     match path.split_last() {
         None => false,
         Some((last, earlier)) => {
-            let block = geometry.block(address_of(graph.nodes(), *last));
-            let mut kept = kept_after(graph.nodes(), geometry, earlier, geometry.set_of(block));
+            let block = geometry.block(address_of(nodes, *last));
+            let first = best_set(geometry, start, block);
+            let mut kept = kept_after(first, nodes, geometry, earlier, geometry.set_of(block));
             kept.touch(block)
         }
     }
+}
+
+// The set to start with for a hit of this block. Where a set may hold anything that is the block alone: it stays until
+// `ways` other blocks are fetched, and no block that the set held too could make it stay longer.
+fn best_set(geometry: &Geometry, start: Start, block: u32) -> LruSet
+    ensures blocks { result.blocks ≡ best_list start block }
+    ensures ways { result.ways ≡ geometry.now.ways }
+{
+    let mut set = LruSet::empty(geometry);
+    match start {
+        Start::Empty => {}
+        Start::Any => {
+            set.touch(block);
+        }
+    }
+    set
 }
 
 fn address_of(nodes: &[Node], number: u32) -> u32
@@ -39,10 +80,16 @@ fn address_of(nodes: &[Node], number: u32) -> u32
 }
 
 // What the set keeps after the fetches of these nodes.
-fn kept_after(nodes: &[Node], geometry: &Geometry, path: &[u32], set: u32) -> LruSet
-    ensures { result.blocks ≡ contents geometry.now set (map (address_of nodes.now) (reverse path.now)) }
+fn kept_after(
+    mut kept: LruSet,
+    nodes: &[Node],
+    geometry: &Geometry,
+    path: &[u32],
+    set: u32,
+) -> LruSet
+    requires { kept.ways ≡ geometry.now.ways }
+    ensures { result.blocks ≡ contents geometry.now set kept.blocks (map (address_of nodes.now) (reverse path.now)) }
 {
-    let mut kept = LruSet::empty(geometry);
     for number in path {
         fetch(&mut kept, geometry, address_of(nodes, *number), set);
     }

@@ -5,6 +5,7 @@ use Rattle.std.specs.List.{AllByRecursion}
 use Rattle.elf_spec.specs.Image.{Image}
 use Rattle.elf_spec.specs.Word.{is_text, IsText, IsNextText}
 use Rattle.cache_spec.specs.Geometry.{Geometry}
+use Rattle.cache_spec.specs.declared.start.Start.{Start}
 use Rattle.flow_spec.specs.Configuration.{Configuration}
 use Rattle.path_model.specs.declared.graph.Node.{Node}
 use Rattle.report_spec.specs.declared.line.Line.{Line}
@@ -47,12 +48,12 @@ BeginsBare image nodes (Context node at depth back verdict ∷ lines) = Unit {0}
 BeginsBare image nodes (Unreachable first last ∷ lines) = IsBare image nodes first
 
 -- what holds of all lines from an address on
-record AreListed (image : Image) (entry : ℕ) (g : Geometry) (nodes : List Node) (from : ℕ) (lines : List Line) : Type 0
-  where
-    words : IsListed image from (flat_map addresses_of lines)
-    right : AllByRecursion (IsRightLine image entry g) lines
-    greatest : AreGreatest lines
-    begins : BeginsBare image nodes lines
+record AreListed (image : Image) (entry : ℕ) (g : Geometry) (start : Start) (nodes : List Node) (from : ℕ)
+    (lines : List Line) : Type 0 where
+  words : IsListed image from (flat_map addresses_of lines)
+  right : AllByRecursion (IsRightLine image entry g start) lines
+  greatest : AreGreatest lines
+  begins : BeginsBare image nodes lines
 
 -- no range could be joined with the next, where that begins at a bare word and the first doesn't go on
 still_greatest : (image : Image) (nodes : List Node) (first last : ℕ) (lines : List Line)
@@ -64,12 +65,12 @@ still_greatest image nodes first last (Context node at depth back verdict ∷ li
 still_greatest image nodes first last (Unreachable next end ∷ lines) ends bare greatest =
     (λ same. ends (subst (IsBare image nodes) same bare), greatest)
 
-module _ (image : Image) (entry : ℕ) (g : Geometry) (configurations : List Configuration) (nodes : List Node)
-    (verdicts : List Verdict)
-    (found : AreFindings image entry g configurations nodes verdicts) where
+module _ (image : Image) (entry : ℕ) (g : Geometry) (start : Start) (configurations : List Configuration)
+    (nodes : List Node) (verdicts : List Verdict)
+    (found : AreFindings image entry g start configurations nodes verdicts) where
   -- the same of this program
   abbrev Listed : ℕ → List Line → Type 0
-  Listed = AreListed image entry g nodes
+  Listed = AreListed image entry g start nodes
 
   -- the first word of a range is bare
   first_bare : (first n : ℕ) → AllByRecursion (IsBare image nodes) (words_from first (n + 1)) → IsBare image nodes first
@@ -87,7 +88,7 @@ module _ (image : Image) (entry : ℕ) (g : Geometry) (configurations : List Con
         (let end : at + 4 ≡ p + 4 * 1 = omega (arith, same) in
         subst (λ (q : ℕ). IsListed image q (flat_map addresses_of lines)) end beyond.words));
     right = (
-      merged_right image entry g configurations nodes verdicts found.graph found.right at verdict
+      merged_right image entry g start configurations nodes verdicts found.graph found.right at verdict
           (subst (λ (q : ℕ). IsMerged nodes verdicts q verdict) (sym same) merged),
       beyond.right,
     );
@@ -98,7 +99,7 @@ module _ (image : Image) (entry : ℕ) (g : Geometry) (configurations : List Con
       let count = (last - first) / 4 + 1 in
       let (i, below, at) = word_place first count last range.ends in
       let end : last + 4 ≡ first + 4 * count = omega (arith, below, at) in
-      let bare = bare_unreached image entry g configurations nodes verdicts found.graph found.right in
+      let bare = bare_unreached image entry g start configurations nodes verdicts found.graph found.right in
       subst (λ (q : ℕ). Listed q (Unreachable first last ∷ lines)) same (record {
         words = listed_words image first count (flat_map addresses_of lines)
             (all_weaker (IsBare image nodes) (IsText image) (words_from first count) (λ x b. b.text) range.words)
@@ -147,7 +148,7 @@ module _ (image : Image) (entry : ℕ) (g : Geometry) (configurations : List Con
 
   -- all lines are those of the report by address
   pub by_address : (lines : List Line) → AreAllFrom (IsByAddress image nodes verdicts) (Some 0) lines
-      → AreByAddress image entry g lines
+      → AreByAddress image entry g start lines
   by_address lines all =
       let it = listed lines 0 all in
       record {

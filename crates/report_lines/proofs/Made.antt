@@ -3,6 +3,7 @@ use Rattle.std.proofs.Common.{◌≡◌, ℕ, ◌^◌, ◌<◌, List, [], length
 use Rattle.std.specs.Prelude.{Bool, true, false, slice_get}
 use Rattle.elf_spec.specs.Image.{Image}
 use Rattle.cache_spec.specs.Geometry.{Geometry}
+use Rattle.cache_spec.specs.declared.start.Start.{Start}
 use Rattle.flow_spec.specs.Configuration.{Configuration}
 use Rattle.path_model.specs.declared.graph.Node.{Node}
 use Rattle.report_spec.specs.declared.line.Line.{Line}
@@ -15,13 +16,13 @@ use Rattle.report_lines.proofs.Numbers.{context_lines, numbers_left}
 use Rattle.report_lines.proofs.Addresses.{by_address}
 use Rattle.report_lines.proofs.Rest.{addresses_left}
 
-module _ (image : Image) (entry : ℕ) (g : Geometry) (configurations : List Configuration) (nodes : List Node)
-    (verdicts : List Verdict)
-    (found : AreFindings image entry g configurations nodes verdicts) where
+module _ (image : Image) (entry : ℕ) (g : Geometry) (start : Start) (configurations : List Configuration)
+    (nodes : List Node) (verdicts : List Verdict)
+    (found : AreFindings image entry g start configurations nodes verdicts) where
   -- all lines make a report
   pub report : (contexts : Bool) (lines : List Line)
       → AreAllFrom (Stands contexts image configurations nodes verdicts) (Some 0) lines
-      → IsReport image entry g contexts (text_of lines)
+      → IsReport image entry g start contexts (text_of lines)
   report true lines all =
       let (layers, accepted, same) = found.accepted in (
         lines,
@@ -29,11 +30,11 @@ module _ (image : Image) (entry : ℕ) (g : Geometry) (configurations : List Con
         (
           layers,
           accepted,
-          subst (λ (cs : List Configuration). AreContextLines image entry g 0 cs lines) same
-              (context_lines image entry g configurations nodes verdicts found lines 0 all),
+          subst (λ (cs : List Configuration). AreContextLines image entry g start 0 cs lines) same
+              (context_lines image entry g start configurations nodes verdicts found lines 0 all),
         ),
       )
-  report false lines all = (lines, refl, by_address image entry g configurations nodes verdicts found lines all)
+  report false lines all = (lines, refl, by_address image entry g start configurations nodes verdicts found lines all)
 
   -- each node has a verdict
   has : (n : ℕ) → n < length nodes → (verdict : Verdict) × (slice_get verdicts n ≡ Some verdict)
@@ -43,7 +44,7 @@ module _ (image : Image) (entry : ℕ) (g : Geometry) (configurations : List Con
   pub rest : (contexts : Bool) (cursor : Option ℕ)
       → (lines : List Line) × AreAllFrom (Stands contexts image configurations nodes verdicts) cursor lines
   rest contexts None = ([], refl)
-  rest true (Some k) = numbers_left image entry g configurations nodes verdicts found (length configurations) k
+  rest true (Some k) = numbers_left image entry g start configurations nodes verdicts found (length configurations) k
       (omega arith)
   rest false (Some from) = addresses_left image found.within nodes verdicts found.graph.graph has (2 ^ 32) from
       (omega arith)

@@ -1,10 +1,12 @@
 -- What is right of nodes is right of their configurations.
-use Rattle.std.proofs.Common.{◌≡◌, ℕ, ◌<◌, List, [], ◌∷◌, length, map, refl, ap, sym, ◌∙◌, subst, arith, Some}
-use Rattle.std.specs.Prelude.{Bool, true, false, slice_get}
+use Rattle.std.proofs.Common.{◌≡◌, ℕ, ◌<◌, List, [], ◌∷◌, length, map, refl, ap, sym, ◌∙◌, subst, inl, inr, arith, Some}
+use Rattle.std.specs.Prelude.{Bool, true, false, not, slice_get}
 use Rattle.std.proofs.lemmas.List.{length-map}
 use Rattle.elf_spec.specs.Image.{Image}
 use Rattle.cache_spec.specs.Geometry.{Geometry}
-use Rattle.cache_spec.specs.Contents.{ends_in_hit}
+use Rattle.cache_spec.specs.declared.start.Start.{Start}
+use Rattle.cache_spec.specs.Start.{CanEnd}
+use Rattle.cache_spec.proofs.Starts.{can_end}
 use Rattle.transition_spec.specs.declared.way.Way.{Way}
 use Rattle.transition_spec.specs.Path.{IsPath}
 use Rattle.transition_spec.specs.Named.{Names}
@@ -19,11 +21,12 @@ use Rattle.report_spec.specs.declared.line.Verdict.{Verdict}
 use Rattle.report_spec.specs.declared.line.Verdict.TheVariants.{AlwaysHit, AlwaysMiss, Unknown}
 use Rattle.call_expand.specs.Expansion.{IsGraphOf, numbered}
 use Rattle.call_expand.proofs.Paths.{address_at, path_to, path_from, choices_to, path_addresses, member_inside}
-use Rattle.focus_spec.specs.Fate.{path_hits, AllEnd, NamesEnd}
+use Rattle.focus_spec.specs.Fate.{PathCanEnd, AllEnd, NamesEnd}
 use Rattle.node_spec.specs.Verdict.{IsNodeVerdict, IsRightAt}
-use Rattle.node_spec.specs.Plan.{IsNodeAt, IsVerdictWay, IsWayAt, IsMerged}
+use Rattle.node_spec.specs.Plan.{IsNodeAt, NamesPathTo, IsVerdictWay, IsWayAt, IsMerged}
 
-module _ (image : Image) (entry : ℕ) (g : Geometry) (configurations : List Configuration) (nodes : List Node)
+module _ (image : Image) (entry : ℕ) (g : Geometry) (start : Start) (configurations : List Configuration)
+    (nodes : List Node)
     (is : IsGraphOf (successors image entry) entry configurations nodes) (Ends : Configuration → Type 0) where
   -- a path of the graph that ends in a node of these configurations, as one of the configurations
   ends_in : (n : ℕ) (earlier : List ℕ) → IsPath (graph_step nodes) 0 (n ∷ earlier) → Ends (numbered configurations n)
@@ -41,11 +44,11 @@ module _ (image : Image) (entry : ℕ) (g : Geometry) (configurations : List Con
       → map (address_of nodes) (n ∷ earlier) ≡ fetches_of (map (numbered configurations) (n ∷ earlier))
   same_fetches n earlier path = path_addresses (successors image entry) entry configurations nodes is (n ∷ earlier) path
 
-  -- the way to a node names a path to its configuration, with the same fate
+  -- the way to a node names a path to its configuration, which can end as the one to the node can
   pub named_fate : (n : ℕ) (earlier : List ℕ) (way : Way) (hits : Bool) → IsPath (graph_step nodes) 0 (n ∷ earlier)
-      → Names (graph_step nodes) way (n ∷ earlier) → path_hits nodes g (n ∷ earlier) ≡ hits
+      → Names (graph_step nodes) way (n ∷ earlier) → PathCanEnd nodes g start (n ∷ earlier) hits
       → Ends (numbered configurations n)
-      → NamesFate image entry g Ends way hits
+      → NamesFate image entry g start Ends way hits
   named_fate n earlier way hits path names fate ends = record {
     path = map (numbered configurations) (n ∷ earlier);
     ends_in = ends_in n earlier path ends;
@@ -54,7 +57,7 @@ module _ (image : Image) (entry : ℕ) (g : Geometry) (configurations : List Con
       choices = choices_to (successors image entry) entry configurations nodes is (n ∷ earlier) way.choices path
           names.choices;
     };
-    fate = ap (ends_in_hit g) (sym (same_fetches n earlier path)) ∙ fate;
+    fate = subst (λ (addresses : List ℕ). CanEnd g start addresses hits) (same_fetches n earlier path) fate;
   }
 
   -- some path ends in the configuration of each node
@@ -83,52 +86,76 @@ module _ (image : Image) (entry : ℕ) (g : Geometry) (configurations : List Con
             let here : numbered configurations n ≡ ends.last = cc whole in
             (n, earlier, is_path, subst Ends (sym here) end, from ∙ sym (same_fetches n earlier is_path))
 
-  -- a hit or a miss of each node is one of each path
-  each_ends : (hits : Bool) → ((n : ℕ) → Ends (numbered configurations n) → n < length nodes → AllEnd nodes g n hits)
-      → (addresses : List ℕ) → Fetches image entry Ends addresses → ends_in_hit g addresses ≡ hits
-  each_ends hits all addresses fetches =
+  -- where no path to these nodes can end otherwise, none to their configurations can
+  none_ends : (hits : Bool)
+      → ((n : ℕ) → Ends (numbered configurations n) → n < length nodes → AllEnd nodes g start n hits)
+      → (addresses : List ℕ) → Fetches image entry Ends addresses → CanEnd g start addresses (not hits) → ⊥
+  none_ends hits all addresses fetches can =
       let (n, earlier, path, ends, same) = of_graph addresses fetches in
       let inside = member_inside (successors image entry) entry configurations nodes is n earlier path in
-      ap (ends_in_hit g) same ∙ all n ends inside earlier path
+      all n ends inside earlier path (subst (λ (addresses : List ℕ). CanEnd g start addresses (not hits)) same can)
 
   -- where all nodes of the configurations always hit, so do these
   pub always_hit : (n : ℕ) → n < length nodes → Ends (numbered configurations n)
-      → ((m : ℕ) → Ends (numbered configurations m) → m < length nodes → AllEnd nodes g m true)
-      → IsRight image entry g Ends AlwaysHit
+      → ((m : ℕ) → Ends (numbered configurations m) → m < length nodes → AllEnd nodes g start m true)
+      → IsRight image entry g start Ends AlwaysHit
   always_hit n inside ends all =
-      record { some = some_fetches n inside ends; each = λ addresses fetches. each_ends true all addresses fetches }
+      record { some = some_fetches n inside ends; none = λ addresses fetches. none_ends true all addresses fetches }
 
   -- where all always miss, so do these
   pub always_miss : (n : ℕ) → n < length nodes → Ends (numbered configurations n)
-      → ((m : ℕ) → Ends (numbered configurations m) → m < length nodes → AllEnd nodes g m false)
-      → IsRight image entry g Ends AlwaysMiss
+      → ((m : ℕ) → Ends (numbered configurations m) → m < length nodes → AllEnd nodes g start m false)
+      → IsRight image entry g start Ends AlwaysMiss
   always_miss n inside ends all =
-      record { some = some_fetches n inside ends; each = λ addresses fetches. each_ends false all addresses fetches }
+      record { some = some_fetches n inside ends; none = λ addresses fetches. none_ends false all addresses fetches }
 
 -- what is right of a node is what its verdict says
-verdict_is : (nodes : List Node) (g : Geometry) (verdicts : List Verdict) (n : ℕ) (verdict : Verdict)
-    → IsRightAt nodes g verdicts n
-    → slice_get verdicts n ≡ Some verdict → IsNodeVerdict nodes g n verdict
-verdict_is nodes g verdicts n verdict right is =
+verdict_is : (nodes : List Node) (g : Geometry) (start : Start) (verdicts : List Verdict) (n : ℕ) (verdict : Verdict)
+    → IsRightAt nodes g start verdicts n
+    → slice_get verdicts n ≡ Some verdict → IsNodeVerdict nodes g start n verdict
+verdict_is nodes g start verdicts n verdict right is =
     let same : right.0 ≡ verdict = cc (is, right.1) in
-    subst (λ (v : Verdict). IsNodeVerdict nodes g n v) same right.2
+    subst (λ (v : Verdict). IsNodeVerdict nodes g start n v) same right.2
 
--- a way to a hit by a right verdict names a path that hits, and one to a miss a path that misses
-way_ends : (nodes : List Node) (g : Geometry) (n : ℕ) (verdict : Verdict) (hits : Bool) (way : Way)
-    → IsNodeVerdict nodes g n verdict → IsVerdictWay nodes n verdict hits way → NamesEnd nodes g n way hits
-way_ends nodes g n AlwaysHit hits way all (so, (earlier, path, names)) =
-    record { earlier = earlier; is_path = path; names = names; fate = all earlier path ∙ sym so }
-way_ends nodes g n AlwaysMiss hits way all (so, (earlier, path, names)) =
-    record { earlier = earlier; is_path = path; names = names; fate = all earlier path ∙ sym so }
-way_ends nodes g n (Unknown hit miss) true way ends same =
-    subst (λ (w : Way). NamesEnd nodes g n w true) (sym same) ends.0
-way_ends nodes g n (Unknown hit miss) false way ends same =
-    subst (λ (w : Way). NamesEnd nodes g n w false) (sym same) ends.1
+-- fetches that can't miss can hit, and those that can't hit can miss
+can_so : (g : Geometry) (start : Start) (addresses : List ℕ) (hits : Bool)
+    → (CanEnd g start addresses (not hits) → ⊥)
+    → CanEnd g start addresses hits
+can_so g start addresses true never = elim (can_end g start addresses) [
+  | inl hit ↦ hit
+  | inr miss ↦ absurd (never miss)
+]
+can_so g start addresses false never = elim (can_end g start addresses) [
+  | inl hit ↦ absurd (never hit)
+  | inr miss ↦ miss
+]
 
-module _ (image : Image) (entry : ℕ) (g : Geometry) (configurations : List Configuration) (nodes : List Node)
-    (verdicts : List Verdict)
+-- where no path to a node can end otherwise, a way to it names a path that can end so
+names_end : (nodes : List Node) (g : Geometry) (start : Start) (n : ℕ) (hits : Bool) (way : Way)
+    → AllEnd nodes g start n hits → NamesPathTo nodes n way → NamesEnd nodes g start n way hits
+names_end nodes g start n hits way all (earlier, path, names) = record {
+  earlier = earlier;
+  is_path = path;
+  names = names;
+  fate = can_so g start (map (address_of nodes) (n ∷ earlier)) hits (all earlier path);
+}
+
+-- a way to a hit by a right verdict names a path that can hit, and one to a miss a path that can miss
+way_ends : (nodes : List Node) (g : Geometry) (start : Start) (n : ℕ) (verdict : Verdict) (hits : Bool) (way : Way)
+    → IsNodeVerdict nodes g start n verdict → IsVerdictWay nodes n verdict hits way → NamesEnd nodes g start n way hits
+way_ends nodes g start n AlwaysHit true way all (so, to) = names_end nodes g start n true way all to
+way_ends nodes g start n AlwaysHit false way all (so, to) = absurd (cc so)
+way_ends nodes g start n AlwaysMiss true way all (so, to) = absurd (cc so)
+way_ends nodes g start n AlwaysMiss false way all (so, to) = names_end nodes g start n false way all to
+way_ends nodes g start n (Unknown hit miss) true way ends same =
+    subst (λ (w : Way). NamesEnd nodes g start n w true) (sym same) ends.0
+way_ends nodes g start n (Unknown hit miss) false way ends same =
+    subst (λ (w : Way). NamesEnd nodes g start n w false) (sym same) ends.1
+
+module _ (image : Image) (entry : ℕ) (g : Geometry) (start : Start) (configurations : List Configuration)
+    (nodes : List Node) (verdicts : List Verdict)
     (is : IsGraphOf (successors image entry) entry configurations nodes)
-    (right : (n : ℕ) → n < length nodes → IsRightAt nodes g verdicts n) where
+    (right : (n : ℕ) → n < length nodes → IsRightAt nodes g start verdicts n) where
   -- the configuration of a node is at the node's address
   at_address : (address n : ℕ) → IsNodeAt nodes address n → (numbered configurations n).at ≡ address
   at_address address n here = sym (address_at (successors image entry) entry configurations nodes is n here.inside)
@@ -139,27 +166,27 @@ module _ (image : Image) (entry : ℕ) (g : Geometry) (configurations : List Con
   node_there address n inside at =
       record { inside = inside; at = address_at (successors image entry) entry configurations nodes is n inside ∙ at }
 
-  -- the way to a hit at an address names a path that hits, and that to a miss one that misses
+  -- the way to a hit at an address names a path that can hit, and that to a miss one that can miss
   way_right : (address : ℕ) (hits : Bool) (way : Way) → IsWayAt nodes verdicts address hits way
-      → NamesFate image entry g (IsAt address) way hits
+      → NamesFate image entry g start (IsAt address) way hits
   way_right address hits way (n, here, (verdict, has, to)) =
-      let ends : NamesEnd nodes g n way hits =
-      way_ends nodes g n verdict hits way (verdict_is nodes g verdicts n verdict (right n here.inside) has) to in
-      named_fate image entry g configurations nodes is (IsAt address) n ends.earlier way hits ends.is_path ends.names
-      ends.fate (at_address address n here)
+      let so = verdict_is nodes g start verdicts n verdict (right n here.inside) has in
+      let ends : NamesEnd nodes g start n way hits = way_ends nodes g start n verdict hits way so to in
+      named_fate image entry g start configurations nodes is (IsAt address) n ends.earlier way hits ends.is_path
+      ends.names ends.fate (at_address address n here)
 
   -- the merged verdict of an address is right of the configurations there
   pub merged_right : (address : ℕ) (verdict : Verdict) → IsMerged nodes verdicts address verdict
-      → IsRight image entry g (IsAt address) verdict
+      → IsRight image entry g start (IsAt address) verdict
   merged_right address AlwaysHit have =
       let (n, here) = have.some in
-      always_hit image entry g configurations nodes is (IsAt address) n here.inside (at_address address n here)
-      (λ m at inside. verdict_is nodes g verdicts m AlwaysHit (right m inside)
+      always_hit image entry g start configurations nodes is (IsAt address) n here.inside (at_address address n here)
+      (λ m at inside. verdict_is nodes g start verdicts m AlwaysHit (right m inside)
       (have.each m (node_there address m inside at)))
   merged_right address AlwaysMiss have =
       let (n, here) = have.some in
-      always_miss image entry g configurations nodes is (IsAt address) n here.inside (at_address address n here)
-      (λ m at inside. verdict_is nodes g verdicts m AlwaysMiss (right m inside)
+      always_miss image entry g start configurations nodes is (IsAt address) n here.inside (at_address address n here)
+      (λ m at inside. verdict_is nodes g start verdicts m AlwaysMiss (right m inside)
       (have.each m (node_there address m inside at)))
   merged_right address (Unknown hit miss) ways =
       (way_right address true hit ways.0, way_right address false miss ways.1)
@@ -167,7 +194,7 @@ module _ (image : Image) (entry : ℕ) (g : Geometry) (configurations : List Con
   -- no path ends at an address without a node
   pub bare_unreached : (address : ℕ) → ((n : ℕ) → IsNodeAt nodes address n → ⊥) → IsUnreached image entry address
   bare_unreached address bare addresses fetches =
-      let (n, earlier, path, at, same) = of_graph image entry g configurations nodes is (IsAt address) addresses
+      let (n, earlier, path, at, same) = of_graph image entry g start configurations nodes is (IsAt address) addresses
       fetches in
       bare n (node_there address n (member_inside (successors image entry) entry configurations nodes is n earlier path)
       at)
@@ -181,26 +208,26 @@ module _ (image : Image) (entry : ℕ) (g : Geometry) (configurations : List Con
   -- the verdict of a node is right of its configuration alone
   pub context_right : (n : ℕ) (verdict : Verdict) → n < length nodes → length configurations ≡ length nodes
       → slice_get verdicts n ≡ Some verdict
-      → IsRight image entry g (λ d. d ≡ numbered configurations n) verdict
+      → IsRight image entry g start (λ d. d ≡ numbered configurations n) verdict
   context_right n AlwaysHit inside long has =
-      always_hit image entry g configurations nodes is (λ d. d ≡ numbered configurations n) n inside refl
-      (λ m same below. subst (λ (k : ℕ). AllEnd nodes g k true)
+      always_hit image entry g start configurations nodes is (λ d. d ≡ numbered configurations n) n inside refl
+      (λ m same below. subst (λ (k : ℕ). AllEnd nodes g start k true)
       (sym (only_node n m (omega (arith, inside, long)) (omega (arith, below, long)) same))
-      (verdict_is nodes g verdicts n AlwaysHit (right n inside) has))
+      (verdict_is nodes g start verdicts n AlwaysHit (right n inside) has))
   context_right n AlwaysMiss inside long has =
-      always_miss image entry g configurations nodes is (λ d. d ≡ numbered configurations n) n inside refl
-      (λ m same below. subst (λ (k : ℕ). AllEnd nodes g k false)
+      always_miss image entry g start configurations nodes is (λ d. d ≡ numbered configurations n) n inside refl
+      (λ m same below. subst (λ (k : ℕ). AllEnd nodes g start k false)
       (sym (only_node n m (omega (arith, inside, long)) (omega (arith, below, long)) same))
-      (verdict_is nodes g verdicts n AlwaysMiss (right n inside) has))
+      (verdict_is nodes g start verdicts n AlwaysMiss (right n inside) has))
   context_right n (Unknown hit miss) inside long has =
-      let ends : IsNodeVerdict nodes g n (Unknown hit miss) =
-      verdict_is nodes g verdicts n (Unknown hit miss) (right n inside) has in
-      let a : NamesEnd nodes g n hit true = ends.0 in
-      let b : NamesEnd nodes g n miss false = ends.1 in (
-        named_fate image entry g configurations nodes is (λ d. d ≡ numbered configurations n) n a.earlier hit true
+      let ends : IsNodeVerdict nodes g start n (Unknown hit miss) =
+      verdict_is nodes g start verdicts n (Unknown hit miss) (right n inside) has in
+      let a : NamesEnd nodes g start n hit true = ends.0 in
+      let b : NamesEnd nodes g start n miss false = ends.1 in (
+        named_fate image entry g start configurations nodes is (λ d. d ≡ numbered configurations n) n a.earlier hit true
             a.is_path
             a.names a.fate refl,
-        named_fate image entry g configurations nodes is (λ d. d ≡ numbered configurations n) n b.earlier miss false
-            b.is_path
-            b.names b.fate refl,
+        named_fate image entry g start configurations nodes is (λ d. d ≡ numbered configurations n) n b.earlier miss
+            false
+            b.is_path b.names b.fate refl,
       )

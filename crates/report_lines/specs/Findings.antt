@@ -3,6 +3,7 @@ use Rattle.std.specs.Prelude.{◌≡◌, ℕ, ◌^◌, ◌<◌, List, length}
 use Rattle.elf_spec.specs.Image.{Image}
 use Rattle.elf_spec.specs.Word.{IsText}
 use Rattle.cache_spec.specs.Geometry.{Geometry}
+use Rattle.cache_spec.specs.declared.start.Start.{Start}
 use Rattle.transition_spec.specs.Layer.{all_of}
 use Rattle.flow_spec.specs.Acceptance.{IsAccepted}
 use Rattle.flow_spec.specs.Configuration.{Configuration}
@@ -17,12 +18,11 @@ abbrev pub IsWithin : Image → Type 0
 IsWithin image = (p : ℕ) → IsText image p → p < 2 ^ 32
 
 -- the configurations of the accepted program, their graph, and a right verdict for each node
-pub record AreFindings (image : Image) (entry : ℕ) (g : Geometry) (configurations : List Configuration)
-    (nodes : List Node)
-    (verdicts : List Verdict) : Type 0 where
+pub record AreFindings (image : Image) (entry : ℕ) (g : Geometry) (start : Start)
+    (configurations : List Configuration) (nodes : List Node) (verdicts : List Verdict) : Type 0 where
   pub within : IsWithin image
   pub accepted : (layers : List (List Configuration)) × IsAccepted (successors image entry) image entry layers
       × (configurations ≡ all_of layers)
   pub graph : IsGraphOf (successors image entry) entry configurations nodes
   pub one_each : length verdicts ≡ length nodes
-  pub right : (n : ℕ) → n < length nodes → IsRightAt nodes g verdicts n
+  pub right : (n : ℕ) → n < length nodes → IsRightAt nodes g start verdicts n

@@ -15,7 +15,7 @@ use path_model::Graph;
 use report_spec::{Verdict, Way};
 use std::alloc::{AllocError, Global};
 
-// Whether some path ends in a hit, or in a miss where `hits` is false, by the verdict of its last node.
+// Whether some path can hit, or can miss where `hits` is false, by the verdict of its last node.
 fn may_end(verdict: &Verdict, hits: bool) -> bool
     ensures { result ≡ may_end hits verdict.now }
 {
@@ -26,7 +26,7 @@ fn may_end(verdict: &Verdict, hits: bool) -> bool
     }
 }
 
-// The first of some nodes whose verdict says that some path ends in a hit, or in a miss.
+// The first of some nodes whose verdict says that some path can hit, or can miss.
 fn first_ending(verdicts: &[Verdict], here: &[u32], hits: bool) -> Option<u32>
     requires { (n : ℕ) → Contains here.now n → n < length verdicts.now }
     ensures some { IfSome result (λ n. Contains here.now n × MayEnd verdicts.now hits n) }
@@ -47,7 +47,7 @@ fn one_of<'a>(hit: &'a Way, miss: &'a Way, hits: bool) -> &'a Way
     if hits { hit } else { miss }
 }
 
-// The way of a node whose verdict says that some path ends in a hit, or in a miss.
+// The way of a node whose verdict says that some path can hit, or can miss.
 fn way_of(
     alloc: Global,
     graph: &Graph,

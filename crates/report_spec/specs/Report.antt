@@ -5,6 +5,7 @@ use Rattle.std.specs.List.Sorted.{IsStrictlyIncreasing}
 use Rattle.elf_spec.specs.Image.{Image}
 use Rattle.elf_spec.specs.Word.{IsText}
 use Rattle.cache_spec.specs.Geometry.{Geometry}
+use Rattle.cache_spec.specs.declared.start.Start.{Start}
 use Rattle.cache_spec.specs.Verdict.{IsUnreachable}
 use Rattle.transition_spec.specs.Layer.{all_of}
 use Rattle.flow_spec.specs.Configuration.{Configuration}
@@ -39,11 +40,11 @@ abbrev pub IsUnreached : Image → ℕ → ℕ → Type 0
 IsUnreached image entry address = IsUnreachable (Fetches image entry (IsAt address))
 
 -- what a line by address says is so; the last address of a range is one of its addresses
-abbrev pub IsRightLine : Image → ℕ → Geometry → Line → Type 0
-IsRightLine image entry g (At at verdict) = IsRight image entry g (IsAt at) verdict
-IsRightLine image entry g (Unreachable first last) =
+abbrev pub IsRightLine : Image → ℕ → Geometry → Start → Line → Type 0
+IsRightLine image entry g start (At at verdict) = IsRight image entry g start (IsAt at) verdict
+IsRightLine image entry g start (Unreachable first last) =
     Contains (range_addresses first last) last × AllByRecursion (IsUnreached image entry) (range_addresses first last)
-IsRightLine image entry g (Context node at depth back verdict) = ⊥
+IsRightLine image entry g start (Context node at depth back verdict) = ⊥
 
 -- no range could be joined with the one after it
 abbrev pub AreGreatest : List Line → Type 0
@@ -57,37 +58,37 @@ AreGreatest (Context node at depth back verdict ∷ lines) = AreGreatest lines
 AreGreatest [] = Unit {0}
 
 -- each address of the text stands in one line, in rising order, each line is right, and the ranges are the greatest
-pub record AreByAddress (image : Image) (entry : ℕ) (g : Geometry) (lines : List Line) : Type 0 where
+pub record AreByAddress (image : Image) (entry : ℕ) (g : Geometry) (start : Start) (lines : List Line) : Type 0 where
   pub rising : IsStrictlyIncreasing (flat_map addresses_of lines)
   pub all : (address : ℕ) → Contains (flat_map addresses_of lines) address ↔ IsText image address
-  pub right : AllByRecursion (IsRightLine image entry g) lines
+  pub right : AllByRecursion (IsRightLine image entry g start) lines
   pub greatest : AreGreatest lines
 
 -- the line of the configuration with a number: its verdict is that of this configuration alone
-abbrev pub IsContextLine : Image → ℕ → Geometry → ℕ → Configuration → Line → Type 0
-IsContextLine image entry g number c (Context node at depth back verdict) =
+abbrev pub IsContextLine : Image → ℕ → Geometry → Start → ℕ → Configuration → Line → Type 0
+IsContextLine image entry g start number c (Context node at depth back verdict) =
     (node ≡ number) × (at ≡ c.at) × (depth ≡ length c.frames)
     × (back ≡ option_map (λ frame. frame.back) (newest c.frames))
-    × IsRight image entry g (λ d. d ≡ c) verdict
-IsContextLine image entry g number c (At at verdict) = ⊥
-IsContextLine image entry g number c (Unreachable first last) = ⊥
+    × IsRight image entry g start (λ d. d ≡ c) verdict
+IsContextLine image entry g start number c (At at verdict) = ⊥
+IsContextLine image entry g start number c (Unreachable first last) = ⊥
 
 -- one line for each configuration, in order of number
-abbrev pub AreContextLines : Image → ℕ → Geometry → ℕ → List Configuration → List Line → Type 0
-AreContextLines image entry g number [] [] = Unit {0}
-AreContextLines image entry g number (c ∷ later) (line ∷ lines) =
-    IsContextLine image entry g number c line × AreContextLines image entry g (number + 1) later lines
-AreContextLines image entry g number [] (line ∷ lines) = ⊥
-AreContextLines image entry g number (c ∷ later) [] = ⊥
+abbrev pub AreContextLines : Image → ℕ → Geometry → Start → ℕ → List Configuration → List Line → Type 0
+AreContextLines image entry g start number [] [] = Unit {0}
+AreContextLines image entry g start number (c ∷ later) (line ∷ lines) =
+    IsContextLine image entry g start number c line × AreContextLines image entry g start (number + 1) later lines
+AreContextLines image entry g start number [] (line ∷ lines) = ⊥
+AreContextLines image entry g start number (c ∷ later) [] = ⊥
 
 -- the lines of all configurations of the program
-abbrev pub AreByContext : Image → ℕ → Geometry → List Line → Type 0
-AreByContext image entry g lines =
+abbrev pub AreByContext : Image → ℕ → Geometry → Start → List Line → Type 0
+AreByContext image entry g start lines =
     (layers : List (List Configuration)) × IsAccepted (successors image entry) image entry layers
-    × AreContextLines image entry g 0 (all_of layers) lines
+    × AreContextLines image entry g start 0 (all_of layers) lines
 
--- the text is a report of the program that begins at the entry
-abbrev pub IsReport : Image → ℕ → Geometry → Bool → List ℕ → Type 0
-IsReport image entry g contexts text =
-    (lines : List Line) × (text ≡ text_of lines) × MatchBool contexts (AreByContext image entry g lines)
-    (AreByAddress image entry g lines)
+-- the text is a report of the program that begins at the entry, in a cache that starts so
+abbrev pub IsReport : Image → ℕ → Geometry → Start → Bool → List ℕ → Type 0
+IsReport image entry g start contexts text =
+    (lines : List Line) × (text ≡ text_of lines) × MatchBool contexts (AreByContext image entry g start lines)
+    (AreByAddress image entry g start lines)

@@ -1,8 +1,10 @@
--- Which verdict is right of some configurations: it is that of all paths of the program that end in one of them.
+-- Which verdict is right of some configurations: it is that of all paths of the program that end in one of them, from
+-- each cache that it may start with.
 use Rattle.std.specs.Prelude.{◌≡◌, ℕ, Bool, true, false, List, ◌∷◌, map}
 use Rattle.elf_spec.specs.Image.{Image}
 use Rattle.cache_spec.specs.Geometry.{Geometry}
-use Rattle.cache_spec.specs.Contents.{ends_in_hit}
+use Rattle.cache_spec.specs.declared.start.Start.{Start}
+use Rattle.cache_spec.specs.Start.{CanEnd}
 use Rattle.cache_spec.specs.Verdict.{IsAlwaysHit, IsAlwaysMiss}
 use Rattle.flow_spec.specs.Configuration.{Configuration, start_of}
 use Rattle.flow_spec.specs.Successors.{successors}
@@ -29,17 +31,17 @@ abbrev pub Fetches : Image → ℕ → (Configuration → Type 0) → List ℕ �
 Fetches image entry Ends addresses =
     (path : List Configuration) × EndsIn image entry Ends path × (addresses ≡ fetches_of path)
 
--- the way names such a path, and that path ends in a hit, or in a miss
-pub record NamesFate (image : Image) (entry : ℕ) (g : Geometry) (Ends : Configuration → Type 0) (way : Way)
-    (hits : Bool) : Type 0 where
+-- the way names such a path, and that path can hit, or can miss
+pub record NamesFate (image : Image) (entry : ℕ) (g : Geometry) (start : Start) (Ends : Configuration → Type 0)
+    (way : Way) (hits : Bool) : Type 0 where
   pub path : List Configuration
   pub ends_in : EndsIn image entry Ends path
   pub names : Names (successors image entry) way path
-  pub fate : ends_in_hit g (fetches_of path) ≡ hits
+  pub fate : CanEnd g start (fetches_of path) hits
 
 -- the verdict is right of the configurations
-abbrev pub IsRight : Image → ℕ → Geometry → (Configuration → Type 0) → Verdict → Type 0
-IsRight image entry g Ends AlwaysHit = IsAlwaysHit g (Fetches image entry Ends)
-IsRight image entry g Ends AlwaysMiss = IsAlwaysMiss g (Fetches image entry Ends)
-IsRight image entry g Ends (Unknown hit miss) =
-    NamesFate image entry g Ends hit true × NamesFate image entry g Ends miss false
+abbrev pub IsRight : Image → ℕ → Geometry → Start → (Configuration → Type 0) → Verdict → Type 0
+IsRight image entry g start Ends AlwaysHit = IsAlwaysHit g start (Fetches image entry Ends)
+IsRight image entry g start Ends AlwaysMiss = IsAlwaysMiss g start (Fetches image entry Ends)
+IsRight image entry g start Ends (Unknown hit miss) =
+    NamesFate image entry g start Ends hit true × NamesFate image entry g start Ends miss false

@@ -4,14 +4,14 @@ ghost use Rattle.report_spec.specs.Valid.{is_letter, is_valid_way, is_valid_verd
 
 use transition_spec::Way;
 
-/// What is said of the fetches of some configurations that a path reaches.
+/// What is said of the fetches of some configurations that a path reaches, from all that the cache may start with.
 #[derive(Debug, Drop)]
 pub enum Verdict {
-    /// Every path that ends there ends in a hit.
+    /// No path that ends there can miss.
     AlwaysHit,
-    /// Every path that ends there ends in a miss.
+    /// No path that ends there can hit.
     AlwaysMiss,
-    /// The first way names a path that ends in a hit, the second one that ends in a miss.
+    /// The first way names a path that can hit, the second one that can miss.
     Unknown { hit: Way, miss: Way },
 }
 

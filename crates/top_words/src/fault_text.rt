@@ -8,7 +8,7 @@ use elf_spec::ElfFault;
 use flow_spec::FlowFault;
 
 const USAGE: &[u8] = b"usage
-  icache classify [--line N] [--sets N] [--ways N] [--workers N] [--nodes N] [--entry 0xN] [--contexts]
+  icache classify [--line N] [--sets N] [--ways N] [--workers N] [--nodes N] [--entry 0xN] [--contexts] [--start empty|any]
   icache graph [--entry 0xN]
   icache sample --number N [--size N] [--line N] [--sets N] [--ways N] [--workers N] [--nodes N]";
 

@@ -1,6 +1,7 @@
 use crate::{Status, read_words, text_of};
 use byte_port::{ReadStop, SinkFault};
 use cache_geom::Geometry;
+use cache_spec::Start;
 use command_spec::{Ask, ReportAsk, Settings};
 use elf_spec::ElfFault;
 use flow_spec::FlowFault;
@@ -17,10 +18,19 @@ fn gives(alloc: Global, line: &str, wanted: &Option<Settings>) -> Result<bool, A
 }
 
 /// The settings of `classify` with these line, sets and ways.
-fn classify(shape: (u32, u32, u32), entry: Option<u32>, contexts: bool) -> Option<Settings> {
+fn classify(
+    shape: (u32, u32, u32),
+    start: Start,
+    entry: Option<u32>,
+    contexts: bool,
+) -> Option<Settings> {
     let (line, sets, ways) = shape;
     let geometry = Geometry::new(line, sets, ways)?;
-    let ask = Ask::Report(ReportAsk { geometry, contexts });
+    let ask = Ask::Report(ReportAsk {
+        geometry,
+        start,
+        contexts,
+    });
     Some(Settings { entry, ask })
 }
 
@@ -44,7 +54,7 @@ fn options_have_defaults_and_stand_in_any_order(rt: HostRuntime) -> Result<(), F
             Some(0xfffffff0),
         ),
     ] {
-        let wanted = classify(shape, entry, false);
+        let wanted = classify(shape, Start::Empty, entry, false);
         assert!(rt; gives(rt.alloc(), line, &wanted)?, "at {line}");
     }
     Ok(())
@@ -62,8 +72,58 @@ fn contexts_has_no_value_and_stands_anywhere(rt: HostRuntime) -> Result<(), Fail
         ("classify --sets 1 --contexts --ways 1", (32, 1, 1), None),
         ("classify --ways 2 --contexts", (32, 64, 2), None),
     ] {
-        let wanted = classify(shape, entry, true);
+        let wanted = classify(shape, Start::Empty, entry, true);
         assert!(rt; gives(rt.alloc(), line, &wanted)?, "at {line}");
+    }
+    Ok(())
+}
+
+#[test]
+fn the_start_is_empty_unless_it_is_any(rt: HostRuntime) -> Result<(), Fail> {
+    for (line, start) in [
+        ("classify", Start::Empty),
+        ("classify --start empty", Start::Empty),
+        ("classify --start any", Start::Any),
+    ] {
+        let wanted = classify((32, 64, 4), start, None, false);
+        assert!(rt; gives(rt.alloc(), line, &wanted)?, "at {line}");
+    }
+    Ok(())
+}
+
+#[test]
+fn start_stands_anywhere(rt: HostRuntime) -> Result<(), Fail> {
+    for line in [
+        "classify --start any --line 16 --contexts --entry 0x10",
+        "classify --line 16 --start any --entry 0x10 --contexts",
+        "classify --entry 0x10 --contexts --start any --line 16",
+        "classify --contexts --entry 0x10 --line 16 --start any",
+    ] {
+        let wanted = classify((16, 64, 4), Start::Any, Some(0x10), true);
+        assert!(rt; gives(rt.alloc(), line, &wanted)?, "at {line}");
+    }
+    Ok(())
+}
+
+#[test]
+fn another_start_gives_no_settings(rt: HostRuntime) -> Result<(), Fail> {
+    for line in [
+        "classify --start full",
+        "classify --start EMPTY",
+        "classify --start Any",
+        "classify --start an",
+        "classify --start anything",
+        "classify --start=any",
+        "classify --start",
+        "classify --line 16 --start",
+        "classify --start --contexts",
+        "classify --line --start",
+        "classify --start any --start any",
+        "classify --start any --start empty",
+        "graph --start any",
+        "graph --start empty",
+    ] {
+        assert!(rt; gives(rt.alloc(), line, &None)?, "at {line}");
     }
     Ok(())
 }
@@ -139,7 +199,7 @@ fn each_status_has_its_code_and_its_text(rt: HostRuntime) {
 #[test]
 fn the_usage_has_a_line_for_each_command(rt: HostRuntime) {
     let usage = "icache: usage
-  icache classify [--line N] [--sets N] [--ways N] [--workers N] [--nodes N] [--entry 0xN] [--contexts]
+  icache classify [--line N] [--sets N] [--ways N] [--workers N] [--nodes N] [--entry 0xN] [--contexts] [--start empty|any]
   icache graph [--entry 0xN]
   icache sample --number N [--size N] [--line N] [--sets N] [--ways N] [--workers N] [--nodes N]
 ";

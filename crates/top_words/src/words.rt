@@ -1,11 +1,12 @@
 // The settings that the arguments of a command line give.
 ghost use Rattle.std.specs.Prelude.{◌≡◌};
-ghost use Rattle.command_spec.specs.Settings.{ask_in, command_of, command_settings, entry_in, geometry_in, geometry_of, number_at, report_in, settings_of};
+ghost use Rattle.command_spec.specs.Settings.{ask_in, command_of, command_settings, entry_in, geometry_in, geometry_of, number_at, report_in, settings_of, start_in};
 ghost use Rattle.top_words.specs.Views.{bytes_of};
 
 use crate::number::{address_of, number_of};
 use crate::options::{has_option, is_plain, value_of};
 use cache_geom::Geometry;
+use cache_spec::Start;
 use command_spec::{Ask, Command, ReportAsk, Settings};
 
 /// The settings that the arguments give. `None` where they aren't in plain form, name no command that is built, or have a
@@ -53,8 +54,24 @@ fn report_in(arguments: &[String]) -> Option<Ask>
     ensures { result ≡ report_in (bytes_of arguments.now) }
 {
     let geometry = geometry_in(arguments)?;
+    let start = start_in(arguments)?;
     let contexts = has_option(Command::Classify, arguments, "--contexts");
-    Some(Ask::Report(ReportAsk { geometry, contexts }))
+    Some(Ask::Report(ReportAsk {
+        geometry,
+        start,
+        contexts,
+    }))
+}
+
+/// What the arguments say that the cache starts with. `None` where their value says nothing known.
+fn start_in(arguments: &[String]) -> Option<Start>
+    ensures { result ≡ start_in (bytes_of arguments.now) }
+{
+    match value_of(Command::Classify, arguments, "--start") {
+        None | Some("empty") => Some(Start::Empty),
+        Some("any") => Some(Start::Any),
+        Some(_) => None,
+    }
 }
 
 /// The entry that the arguments give, if they give one. `None` where its text spells no address.

@@ -1,21 +1,42 @@
 -- How the paths of the loop end in a cache of one line of 16 bytes.
 use Rattle.std.proofs.Common.{◌≡◌, ℕ, ◌/◌, List, [], ◌∷◌, refl, ap, ◌∙◌, subst, inl, inr, arith, lit<}
-use Rattle.std.specs.Prelude.{true, codes}
+use Rattle.std.specs.Prelude.{Bool, true, false, codes}
 use Rattle.elf_spec.specs.Word.{word_at}
 use Rattle.riscv_spec.specs.Pair.{pair_of}
 use Rattle.riscv_spec.specs.Table.{kind_of}
+use Rattle.cache_spec.specs.Geometry.{Geometry}
+use Rattle.cache_spec.specs.declared.start.Start.{Start}
+use Rattle.cache_spec.specs.declared.start.Start.TheVariants.{Empty}
 use Rattle.cache_spec.specs.Contents.{ends_in_hit}
+use Rattle.cache_spec.specs.Start.{CanEnd}
+use Rattle.cache_spec.proofs.Starts.{can_miss}
 use Rattle.flow_spec.specs.Configuration.{Configuration, start_of}
 use Rattle.flow_spec.specs.Next.{next_at}
 use Rattle.flow_spec.specs.Successors.{successors}
 use Rattle.transition_spec.specs.Path.{IsPath}
 use Rattle.report_spec.specs.declared.line.Verdict.TheVariants.{AlwaysHit, Unknown}
-use Rattle.report_spec.specs.Right.{EndsIn, Fetches, IsRight, fetches_of}
+use Rattle.report_spec.specs.Right.{EndsIn, Fetches, NamesFate, IsRight, fetches_of}
 use Rattle.report_spec.specs.Report.{IsUnreached}
 use Rattle.worked_examples.specs.Caches.{geometry}
 use Rattle.worked_examples.specs.Programs.{program_of, at, loop_and_rest}
 use Rattle.worked_examples.specs.Texts.{way}
 use Rattle.worked_examples.proofs.Moves.{step, IsAmong, among}
+
+-- fetches that hit from an empty cache can't miss
+pub hits_only : (g : Geometry) (start : Start) (addresses : List ℕ) → ends_in_hit g addresses ≡ true
+    → CanEnd g start addresses false → ⊥
+hits_only g start addresses hits can = let misses = (can_miss g start addresses).0 can in cc (hits, misses)
+
+-- the path to the first word of a program can end as its one fetch can
+pub alone : (words : List ℕ) (start : Start) (Ends : Configuration → Type 0) (hits : Bool) → Ends (at 0x10000)
+    → CanEnd (geometry 16 1 1) start (0x10000 ∷ []) hits
+    → NamesFate (program_of words) 0x10000 (geometry 16 1 1) start Ends (way 1 []) hits
+alone words start Ends hits ends can = record {
+  path = at 0x10000 ∷ [];
+  ends_in = record { last = at 0x10000; earlier = []; path_is = refl; is_path = refl; ends = ends };
+  names = record { steps = refl; choices = refl };
+  fate = can;
+}
 
 -- the three words lie in one block
 block_is : (c : Configuration) → IsAmong c → c.at / 16 ≡ 4096
@@ -46,6 +67,11 @@ each_hits Ends elsewhere addresses (path, ends, is) =
     let P : List Configuration → Type 0 = λ path. IsPath step (start_of 0x10000) path in
     ap (λ addresses. ends_in_hit (geometry 16 1 1) addresses) (is ∙ ap fetches_of ends.path_is)
     ∙ longer_hits ends.last ends.earlier (subst P ends.path_is ends.is_path) (elsewhere ends.last ends.ends)
+
+none_misses : (Ends : Configuration → Type 0) → AreElsewhere Ends → (addresses : List ℕ)
+    → Fetches (program_of loop_and_rest) 0x10000 Ends addresses → CanEnd (geometry 16 1 1) Empty addresses false → ⊥
+none_misses Ends elsewhere addresses fetches =
+    hits_only (geometry 16 1 1) Empty addresses (each_hits Ends elsewhere addresses fetches)
 
 address_is : (c : Configuration) → IsAmong c → c.at ≡ 0x1000c → ⊥
 address_is c (inl is) there = let e = ap (λ (c : Configuration). c.at) is in omega arith
@@ -81,15 +107,16 @@ module _ (Ends : Configuration → Type 0) where
   }
 
   pub second_right : Ends (at 0x10004) → AreElsewhere Ends
-      → IsRight (program_of loop_and_rest) 0x10000 (geometry 16 1 1) Ends AlwaysHit
-  second_right ends elsewhere = record { some = (_, (_, once_to ends, refl)); each = each_hits Ends elsewhere }
+      → IsRight (program_of loop_and_rest) 0x10000 (geometry 16 1 1) Empty Ends AlwaysHit
+  second_right ends elsewhere = record { some = (_, (_, once_to ends, refl)); none = none_misses Ends elsewhere }
 
   pub third_right : Ends (at 0x10008) → AreElsewhere Ends
-      → IsRight (program_of loop_and_rest) 0x10000 (geometry 16 1 1) Ends AlwaysHit
-  third_right ends elsewhere = record { some = (_, (_, through ends, refl)); each = each_hits Ends elsewhere }
+      → IsRight (program_of loop_and_rest) 0x10000 (geometry 16 1 1) Empty Ends AlwaysHit
+  third_right ends elsewhere = record { some = (_, (_, through ends, refl)); none = none_misses Ends elsewhere }
 
   pub first_right : Ends (at 0x10000)
-      → IsRight (program_of loop_and_rest) 0x10000 (geometry 16 1 1) Ends (Unknown (way 3 (codes "t")) (way 1 []))
+      → IsRight (program_of loop_and_rest) 0x10000 (geometry 16 1 1) Empty Ends
+      (Unknown (way 3 (codes "t")) (way 1 []))
   unfolding successors next_at word_at kind_of pair_of
   first_right ends = (
     record {
@@ -102,12 +129,7 @@ module _ (Ends : Configuration → Type 0) where
         ends = ends;
       };
       names = record { steps = refl; choices = ([], codes "t", ([], [], refl, refl, refl), inr (refl, refl), refl) };
-      fate = refl;
+      fate = ([], refl, refl);
     },
-    record {
-      path = at 0x10000 ∷ [];
-      ends_in = record { last = at 0x10000; earlier = []; path_is = refl; is_path = refl; ends = ends };
-      names = record { steps = refl; choices = refl };
-      fate = refl;
-    },
+    alone loop_and_rest Empty Ends false ends ([], refl, refl),
   )

@@ -88,8 +88,8 @@ reached_third : (c : Configuration) → Reached step 2 c → (c ≡ at 0x10008) 
 reached_third c reached = one_of_two _ _ c (reached_from step 1 _ c _ reached_second second reached)
 
 follows_third : (b c : Configuration) → (b ≡ at 0x10008) ⊎ (b ≡ at 0x10000) → IsSuccessor step b c → c ≡ at 0x10004
-follows_third b c (inl is) follows = absurd (none_of_none c (follows_in b _ c _ is third follows))
-follows_third b c (inr is) follows = one_of_one _ c (follows_in b _ c _ is first follows)
+follows_third b c (inl is) follows = absurd (none_of_none c (follows_in step b _ c _ is third follows))
+follows_third b c (inr is) follows = one_of_one _ c (follows_in step b _ c _ is first follows)
 
 reached_fourth : (c : Configuration) → Reached step 3 c → c ≡ at 0x10004
 reached_fourth c reached = let before =

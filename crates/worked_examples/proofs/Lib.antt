@@ -1,4 +1,5 @@
 pub mod Moves
 pub mod Fates
+pub mod Stop
 pub mod Listed
 pub mod Layers

@@ -11,6 +11,15 @@ use Rattle.flow_spec.specs.Successors.{Successors, successors}
 use Rattle.transition_spec.specs.Path.{IsPath, IsSuccessor}
 use Rattle.worked_examples.specs.Programs.{program_of, at, loop_and_rest}
 
+-- what follows a configuration whose successors are known
+pub follows_in : (step : Step) (b known c : Configuration) (found : List Configuration) → b ≡ known
+    → step known ≡ Ok found
+    → IsSuccessor step b c → Contains found c
+follows_in step b known c found is leads follows =
+    let P : Configuration → Type 0 = λ b. IsSuccessor step b c in
+    let Q : Successors → Type 0 = λ r. IsOkAnd r (λ found. Contains found c) in
+    subst Q leads (subst P is follows)
+
 abbrev pub step : Step
 step = successors (program_of loop_and_rest) 0x10000
 
@@ -30,14 +39,6 @@ third = refl
 abbrev pub IsAmong : Configuration → Type 0
 IsAmong c = (c ≡ at 0x10000) ⊎ ((c ≡ at 0x10004) ⊎ (c ≡ at 0x10008))
 
--- what follows a configuration whose successors are known
-pub follows_in : (b known c : Configuration) (found : List Configuration) → b ≡ known → step known ≡ Ok found
-    → IsSuccessor step b c → Contains found c
-follows_in b known c found is leads follows =
-    let P : Configuration → Type 0 = λ b. IsSuccessor step b c in
-    let Q : Successors → Type 0 = λ r. IsOkAnd r (λ found. Contains found c) in
-    subst Q leads (subst P is follows)
-
 pub one_of_one : (a c : Configuration) → Contains (a ∷ []) c → c ≡ a
 one_of_one a c (zero, lt, is) = sym is
 one_of_one a c (suc k, lt, is) = absurd (omega arith)
@@ -55,9 +56,9 @@ back_or_on c (inl is) = inr (inr is)
 back_or_on c (inr is) = inl is
 
 stays : (b c : Configuration) → IsAmong b → IsSuccessor step b c → IsAmong c
-stays b c (inl is) follows = inr (inl (one_of_one _ c (follows_in b _ c _ is first follows)))
-stays b c (inr (inl is)) follows = back_or_on c (one_of_two _ _ c (follows_in b _ c _ is second follows))
-stays b c (inr (inr is)) follows = absurd (none_of_none c (follows_in b _ c _ is third follows))
+stays b c (inl is) follows = inr (inl (one_of_one _ c (follows_in step b _ c _ is first follows)))
+stays b c (inr (inl is)) follows = back_or_on c (one_of_two _ _ c (follows_in step b _ c _ is second follows))
+stays b c (inr (inr is)) follows = absurd (none_of_none c (follows_in step b _ c _ is third follows))
 
 pub among : (earlier : List Configuration) (c : Configuration) → IsPath step (start_of 0x10000) (c ∷ earlier)
     → IsAmong c

@@ -1,4 +1,5 @@
--- Configurations of small programs, each with its successors or its fault, and addresses with whether they are good targets.
+-- Configurations of small programs, each with its successors or its fault, and addresses with whether they are good
+-- targets.
 use Rattle.std.specs.Prelude.{ℕ, Bool, true, false, List, [], ◌∷◌, Ok, Err}
 use Rattle.riscv_spec.specs.declared.kind.Link.TheVariants.{X1, X5}
 use Rattle.flow_spec.specs.declared.frame.Frame.{Frame}

@@ -39,6 +39,10 @@ loop = 0x00000013 ∷ 0xfe051ee3 ∷ 0x00100073 ∷ []  -- nop; bnez a0, -4; ebr
 abbrev pub loop_and_rest : List ℕ
 loop_and_rest = 0x00000013 ∷ 0xfe051ee3 ∷ 0x00100073 ∷ 0x00000013 ∷ []  -- nop; bnez a0, -4; ebreak; nop
 
+-- a word and a stop
+abbrev pub nop_and_stop : List ℕ
+nop_and_stop = 0x00000013 ∷ 0x00100073 ∷ []  -- nop; ebreak
+
 -- two calls of one function, a stop, and the function, which returns
 abbrev pub two_calls : List ℕ
 two_calls = 0x00c000ef ∷ 0x008000ef ∷ 0x00100073 ∷ 0x00008067 ∷ []  -- jal +12; jal +8; ebreak; ret

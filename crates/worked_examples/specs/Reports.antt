@@ -1,4 +1,5 @@
--- The layers and the reports of the loop with a word after, and programs that are refused.
+-- The layers and the reports of the loop with a word after, programs that are refused, and a report where the cache may
+-- start with anything.
 use Rattle.std.specs.Prelude.{ℕ, List, [], ◌∷◌, ◌++◌, None, codes}
 use Rattle.flow_spec.specs.declared.fault.FlowFault.{FlowFault}
 use Rattle.flow_spec.specs.Acceptance.{IsAccepted, IsRefused}
@@ -57,3 +58,11 @@ loop_context_report =
     codes "#0 0x00010000 depth 0 back none unknown hit 3 t miss 1 -\n"
     ++ (codes "#1 0x00010004 depth 0 back none always-hit\n"
     ++ codes "#2 0x00010008 depth 0 back none always-hit\n")
+
+-- a word and a stop by address, where the cache may start with anything: the one path to the word can hit and can miss
+abbrev pub stop_lines : List Line
+stop_lines = At 0x10000 (Unknown (way 1 []) (way 1 [])) ∷ At 0x10004 AlwaysHit ∷ []
+
+-- their text
+abbrev pub stop_report : List ℕ
+stop_report = codes "0x00010000 unknown hit 1 - miss 1 -\n" ++ codes "0x00010004 always-hit\n"

@@ -1,4 +1,6 @@
 ghost use Rattle.std.specs.Prelude.{◌≡◌, true, false, [], ◌∷◌, map, Ok, Err};
+ghost use Rattle.std.specs.List.{AllByRecursion};
+ghost use Rattle.cache_spec.specs.declared.start.Start.{Start};
 ghost use Rattle.cache_spec.specs.Contents.{ends_in_hit};
 ghost use Rattle.cache_spec.specs.Lru.{touch, is_in};
 ghost use Rattle.elf_spec.specs.Image.{image_of};
@@ -14,12 +16,12 @@ ghost use Rattle.report_spec.specs.Text.{line_text};
 ghost use Rattle.transition_spec.specs.Named.{Names};
 ghost use Rattle.transition_spec.specs.Path.{IsPath};
 ghost use Rattle.worked_examples.specs.Alike.{hit_after, miss_after, hit_between, miss_between, hit_by_other_ways};
-ghost use Rattle.worked_examples.specs.Caches.{geometry, worked_touches, worked_hits};
+ghost use Rattle.worked_examples.specs.Caches.{geometry, worked_touches, worked_hits, worked_starts, IsRightRow};
 ghost use Rattle.worked_examples.specs.Files.{two_words, two_words_image, worked_places, worked_refusals};
 ghost use Rattle.worked_examples.specs.Flows.{worked_moves, worked_calls, worked_faults, worked_targets};
 ghost use Rattle.worked_examples.specs.Orders.{worked_order};
-ghost use Rattle.worked_examples.specs.Programs.{program_of, loop, loop_and_rest, branch_onto_pair};
-ghost use Rattle.worked_examples.specs.Reports.{IsAcceptedIn, IsRefusedFrom, loop_layers, two_faults, loop_report, loop_context_report};
+ghost use Rattle.worked_examples.specs.Programs.{program_of, loop, loop_and_rest, nop_and_stop, branch_onto_pair};
+ghost use Rattle.worked_examples.specs.Reports.{IsAcceptedIn, IsRefusedFrom, loop_layers, two_faults, loop_report, loop_context_report, stop_report};
 ghost use Rattle.worked_examples.specs.Segments.{segments_of, worked_segments, worked_edges};
 ghost use Rattle.worked_examples.specs.Texts.{worked_lines};
 ghost use Rattle.worked_examples.specs.Ways.{once_around, once_around_way};
@@ -43,7 +45,8 @@ pub fn worked_segments()
 pub fn worked_flows()
     ensures moves { map (λ f. successors (program_of f.0) 0x10000 f.1) worked_moves ≡ map (λ f. f.2) worked_moves }
     ensures calls { map (λ f. successors (program_of f.0) 0x10000 f.1) worked_calls ≡ map (λ f. f.2) worked_calls }
-    ensures targets { map (λ t. is_good_target (program_of branch_onto_pair) t.0) worked_targets ≡ map (λ t. t.1) worked_targets }
+    ensures targets { map (λ t. is_good_target (program_of branch_onto_pair) t.0) worked_targets
+        ≡ map (λ t. t.1) worked_targets }
 {}
 
 /// Words that lead nowhere good have their faults.
@@ -51,11 +54,13 @@ pub fn worked_faults()
     ensures { map (λ f. successors (program_of f.0) 0x10000 f.1) worked_faults ≡ map (λ f. f.2) worked_faults }
 {}
 
-/// A set of two ways over five touches, and fetches that end in a hit or in a miss.
+/// A set of two ways over five touches, fetches from an empty cache that end in a hit or in a miss, and how fetches can
+/// end where the cache may start with anything.
 pub fn worked_caches()
     ensures before { map (λ t. is_in t.0 t.1) worked_touches ≡ map (λ t. t.2) worked_touches }
     ensures after { map (λ t. touch 2 t.0 t.1) worked_touches ≡ map (λ t. t.3) worked_touches }
     ensures hits { map (λ h. ends_in_hit h.0 h.1) worked_hits ≡ map (λ h. h.2) worked_hits }
+    ensures starts { AllByRecursion IsRightRow worked_starts }
 {}
 
 /// Each kind of line has its text.
@@ -90,8 +95,12 @@ pub fn worked_acceptance()
     ensures first_fault { IsRefusedFrom 0x10000 two_faults (Illegal 0x10004 0xffffffff) }
 {}
 
-/// The two reports of a loop, in a cache of one line of 16 bytes: its first word misses only on the shortest path.
+/// The two reports of a loop, in a cache of one line of 16 bytes that starts empty: its first word misses only on the
+/// shortest path. And the report of a word and a stop where the cache may start with anything: its one path to the word
+/// can hit and can miss.
 pub fn worked_reports()
-    ensures by_address { IsReport (program_of loop_and_rest) 0x10000 (geometry 16 1 1) false loop_report }
-    ensures by_context { IsReport (program_of loop_and_rest) 0x10000 (geometry 16 1 1) true loop_context_report }
+    ensures by_address { IsReport (program_of loop_and_rest) 0x10000 (geometry 16 1 1) Start.Empty false loop_report }
+    ensures by_context { IsReport (program_of loop_and_rest) 0x10000 (geometry 16 1 1) Start.Empty true
+        loop_context_report }
+    ensures any_start { IsReport (program_of nop_and_stop) 0x10000 (geometry 16 1 1) Start.Any false stop_report }
 {}

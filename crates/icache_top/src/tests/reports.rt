@@ -90,6 +90,58 @@ fn branches_and_calls_are_classified(rt: HostRuntime) -> Result<(), Fail> {
 }
 
 #[test]
+fn with_any_cache_at_the_start_a_first_fetch_can_hit(rt: HostRuntime) -> Result<(), Fail> {
+    let one_block = "0x00010000 unknown hit 1 - miss 1 -\n0x00010004 always-hit\n";
+    let emptied = "0x00010000 always-miss\n0x00010004 always-hit\n";
+    let two_ways = "0x00010000 unknown hit 1 - miss 1 -
+0x00010004 unknown hit 2 - miss 2 -
+0x00010008 always-miss
+";
+    let one_way = "0x00010000 unknown hit 1 - miss 1 -
+0x00010004 always-miss
+0x00010008 always-miss
+";
+    let called = "#0 0x00010000 depth 0 back none unknown hit 1 - miss 1 -
+#1 0x0001000c depth 1 back 0x00010004 unknown hit 2 - miss 2 -
+#2 0x00010004 depth 0 back none unknown hit 3 - miss 3 -
+#3 0x0001000c depth 1 back 0x00010008 always-hit
+#4 0x00010008 depth 0 back none unknown hit 5 - miss 5 -
+";
+    let three: [u32; 3] = [0x13, 0x13, 0x100073];
+    let cases: [(&str, &[u32], &str); 5] = [
+        (
+            "classify --line 16 --sets 1 --ways 1 --start any",
+            &[0x13, 0x100073],
+            one_block,
+        ),
+        (
+            "classify --start empty --line 16 --sets 1 --ways 1",
+            &[0x13, 0x100073],
+            emptied,
+        ),
+        (
+            "classify --line 4 --start any --sets 1 --ways 2",
+            &three,
+            two_ways,
+        ),
+        (
+            "classify --line 4 --sets 1 --ways 1 --start any",
+            &three,
+            one_way,
+        ),
+        (
+            "classify --contexts --line 4 --sets 1 --ways 4 --start any",
+            &CALLED_TWICE,
+            called,
+        ),
+    ];
+    for (line, words, text) in cases {
+        check(&rt, rt.alloc(), line, words, Status::Done, text)?;
+    }
+    Ok(())
+}
+
+#[test]
 fn reports_with_contexts_have_a_line_for_each_configuration(rt: HostRuntime) -> Result<(), Fail> {
     let called = "#0 0x00010000 depth 0 back none always-miss
 #1 0x0001000c depth 1 back 0x00010004 always-miss

@@ -2,6 +2,7 @@ use Rattle.std.proofs.Common.{◌≡◌, ℕ, ◌+◌, Vec, Global, List, [], �
 use Rattle.std.proofs.lemmas.List.{map-append}
 use Rattle.std.proofs.lemmas.List.Elements.{All-push}
 use Rattle.std.specs.List.{All}
+use Rattle.cache_spec.specs.declared.start.Start.{Start}
 use Rattle.focus_plain.specs.declared.judging.Judged.{Judged}
 use Rattle.focus_plain.specs.Judged.{IsClassification}
 use Rattle.focus_plain.proofs.Equals.{same_number, other_number}
@@ -18,7 +19,7 @@ unfolding nodes_of
 loop-node-preserved c =
     let view = c.args.view.now in
     let judged = c.loop-node.judged.items in
-    let Right : Judged → Type 0 = λ j. IsClassification view j.node j.classification in
+    let Right : Judged → Type 0 = λ j. IsClassification view c.args.start j.node j.classification in
     elim c.if-eq.branch [
       | then-eq+in_ok-classification+in_ok-push w ↦
           let fetched = sym c.fetch.ensures ∙ same_number c.fetch.result c.args.block
@@ -32,7 +33,9 @@ loop-node-preserved c =
                 (nodes_of c.if-eq.judged.items) c.loop-node.invariant.nodes fetched
                 (ap nodes_of new_is ∙ map-append (λ (j : Judged). j.node) judged (last ∷ []));
             classifications = subst (λ (js : List Judged). All Right js) (sym new_is)
-                (All-push Right judged last c.loop-node.invariant.classifications found.ensures);
+                (All-push Right judged last c.loop-node.invariant.classifications (subst
+                (λ (start : Start). IsClassification view start c.loop-node.node found.classification)
+                c.in_ok-found.ensures.start found.ensures));
           }
       | else-eq w ↦
           let other = other_number c.fetch.result c.args.block (sym c.eq.ensures ∙ w.if-eq.false) in

@@ -7,5 +7,5 @@ use Rattle.focus_plain.proofs.judging.judge.Given as goal
 abbrev pub invariant-loop-node : goal.invariant-loop-node
 invariant-loop-node l = record {
   nodes : AreFetchersBelow l.view.fetches l.block l.node (map (λ j. j.node) l.judged.items);
-  classifications : All (λ j. IsClassification l.view j.node j.classification) l.judged.items;
+  classifications : All (λ j. IsClassification l.view l.fn.start j.node j.classification) l.judged.items;
 }

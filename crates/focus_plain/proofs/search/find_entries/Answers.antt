@@ -7,13 +7,15 @@ use Rattle.focus_plain.proofs.search.find_entries.Goals as goal
 
 pub loop-index-init : goal.loop-index-init
 loop-index-init c =
-    let same : length c.nodes.result.now ≡ length c.args.view.now.nodes =
+    let same : length c.nodes.result.now ≡ length c.args.focus.now.view.now.nodes =
     ap length (c.nodes.ensures.same ∙ c.graph.ensures.same) in
     let graph : IsGraph c.graph.result.now = c.nodes.ensures.graph in
     let some : 1 ≤ length c.nodes.result.now = omega (arith, graph.some, ap length c.nodes.ensures.same) in
     record {
-      search = search_begun c.in_ok-search.search (length c.nodes.result.now) some c.in_ok-search.ensures.entries
-          c.in_ok-search.ensures.sets c.in_ok-search.ensures.latest c.args.view.now c.args.block same;
+      search = search_begun c.in_ok-search.search (length c.nodes.result.now) c.args.focus.now.start some
+          c.in_ok-search.ensures.entries
+          c.in_ok-search.ensures.sets c.in_ok-search.ensures.latest c.args.focus.now.view.now c.args.focus.now.block
+          c.requires.some_ways same;
       within = omega arith;
       spread = λ number m below edge. absurd (omega arith);
     }
@@ -35,6 +37,7 @@ loop-index-preserved c =
         ap length grown.trail.1,
         length-append (trail_of old.entries.items) grown.trail.0,
       );
-      spread = spread_more c.args.view.now c.args.block old new c.loop-index.index c.loop-index.invariant.search grown
+      spread = spread_more c.args.focus.now.view.now c.args.focus.now.start c.args.focus.now.block old new
+          c.loop-index.index c.loop-index.invariant.search grown
           inside c.loop-index.invariant.spread c.in_ok-spread.ensures.spread;
     }

@@ -5,9 +5,9 @@ use Rattle.focus_plain.proofs.search.find_entries.Given as goal
 
 abbrev pub invariant-loop-index : goal.invariant-loop-index
 invariant-loop-index l = record {
-  search : IsSearch l.view l.block l.search;
+  search : IsSearch l.focus.view.now l.focus.start l.focus.block l.search;
   within : l.index ≤ length l.search.entries.items;
-  spread : IsSpread l.view l.block (trail_of l.search.entries.items)
+  spread : IsSpread l.focus.view.now l.focus.block (trail_of l.search.entries.items)
       (seen_of l.search.sets.items l.search.entries.items) l.index;
 }
 

@@ -11,7 +11,8 @@ use Rattle.focus_plain.proofs.search.spread.Goals as goal
 use Rattle.focus_plain.proofs.search.spread.Goals.{After-try_edge, After-try_edge-2}
 
 pub fetch-requires : goal.fetch-requires
-fetch-requires c = node_inside c.args.view.now c.args.block c.args.search.now c.requires.search c.args.index
+fetch-requires c = node_inside c.args.focus.now.view.now c.args.focus.now.start c.args.focus.now.block
+    c.args.search.now c.requires.search c.args.index
     c.requires.inside c.index-entry.result.now c.index-entry.ensures
 
 pub moved-reached-requires-clause-index : goal.moved-reached-requires-clause-index
@@ -29,25 +30,29 @@ moved-reached-requires-clause-small c =
     let Q : ℕ → Type 0 = λ w. cut w (set_at c.args.search.now.sets.items c.index-entry.result.now.younger)
     ≡ set_at c.args.search.now.sets.items c.index-entry.result.now.younger in
     subst P (sym c.deref.ensures.value) (subst Q (sym c.ways.ensures.same)
-    (seen_small c.args.view.now c.args.block c.args.search.now c.requires.search c.args.index c.requires.inside
+    (seen_small c.args.focus.now.view.now c.args.focus.now.start c.args.focus.now.block c.args.search.now
+    c.requires.search c.args.index c.requires.inside
     c.index-entry.result.now c.index-entry.ensures))
 
 pub bounds-nodes-entry : goal.bounds-nodes-entry
 bounds-nodes-entry c =
-    let inside = node_inside c.args.view.now c.args.block c.args.search.now c.requires.search c.args.index
+    let inside = node_inside c.args.focus.now.view.now c.args.focus.now.start c.args.focus.now.block c.args.search.now
+    c.requires.search c.args.index
     c.requires.inside c.index-entry.result.now c.index-entry.ensures in
     omega (arith, inside, ap length (c.nodes.ensures.same ∙ c.graph.ensures.same))
 
 -- what the answers about both edges share
 module _ (c : After-try_edge) where
   -- the nodes are those of the view
-  same_nodes : c.nodes.result.now ≡ c.args.view.now.nodes
+  same_nodes : c.nodes.result.now ≡ c.args.focus.now.view.now.nodes
   same_nodes = c.nodes.ensures.same ∙ c.graph.ensures.same
 
   -- an edge leads to one of them
-  ends : (n m : ℕ) → IsSuccessor (graph_step c.args.view.now.nodes) n m → m < length c.args.view.now.nodes
+  ends : (n m : ℕ) → IsSuccessor (graph_step c.args.focus.now.view.now.nodes) n m
+      → m < length c.args.focus.now.view.now.nodes
   ends n m edge =
-      c.graph_laws.ensures.inside c.args.view.now.nodes n m (subst IsGraph c.graph.ensures.same c.nodes.ensures.graph)
+      c.graph_laws.ensures.inside c.args.focus.now.view.now.nodes n m
+      (subst IsGraph c.graph.ensures.same c.nodes.ensures.graph)
       edge
 
   -- what is reached has an index in the table
@@ -58,26 +63,29 @@ module _ (c : After-try_edge) where
 
   -- it is what the entry's node leaves
   value : reached_set c.args.search.now.sets.items c.moved-reached.result
-      ≡ cut_after c.args.view.now c.args.block c.index-entry.result.now.node
+      ≡ cut_after c.args.focus.now.view.now c.args.focus.now.block c.index-entry.result.now.node
       (set_at c.args.search.now.sets.items c.index-entry.result.now.younger)
   value =
-      value_from c.args.view.now c.args.block c.index-entry.result.now.node c.deref.result.now
+      value_from c.args.focus.now.view.now c.args.focus.now.block c.index-entry.result.now.node c.deref.result.now
       c.args.search.now.sets.items c.ways.result c.fetch.result c.index-entry.result.now.younger c.moved-reached.result
       c.deref.ensures.value c.ways.ensures.same c.fetch.ensures c.moved-reached.ensures.value
 
 pub try_edge-requires-2-clause-linked : goal.try_edge-requires-2-clause-linked
 try_edge-requires-2-clause-linked c =
     let known = (goal.at.try_edge-requires-2-clause-linked c).After-try_edge in
-    (first_stepped c.args.view.now c.args.block c.args.search.now c.requires.search c.args.index c.requires.inside
+    (first_stepped c.args.focus.now.view.now c.args.focus.now.start c.args.focus.now.block c.args.search.now
+    c.requires.search c.args.index c.requires.inside
     c.index-entry.result.now c.index-entry.ensures c.nodes.result.now (same_nodes known) _ (ends known)
     c.moved-reached.result (reachable known) (value known) c.try_edge.new.search c.in_ok-try_edge.ensures).search.linked
 
 -- both edges are followed
 both : (c : After-try_edge-2) → OnOk c.try_edge-2.result
-    (AreStepped c.args.view.now c.args.block c.args.search.now c.try_edge-2.new.search c.args.index)
+    (AreStepped c.args.focus.now.view.now c.args.focus.now.start c.args.focus.now.block c.args.search.now
+    c.try_edge-2.new.search c.args.index)
 both c =
     let known = (goal.at.returns-clause-search c).After-try_edge in
-    on_ok_weaker c.try_edge-2.result (λ second. both_stepped c.args.view.now c.args.block c.args.search.now
+    on_ok_weaker c.try_edge-2.result (λ second. both_stepped c.args.focus.now.view.now c.args.focus.now.start
+    c.args.focus.now.block c.args.search.now
     c.requires.search c.args.index c.requires.inside c.index-entry.result.now c.index-entry.ensures c.nodes.result.now
     (same_nodes known) _ (ends known) c.moved-reached.result (reachable known) (value known) c.try_edge.new.search
     c.in_ok-try_edge.ensures c.try_edge-2.new.search second) c.try_edge-2.ensures

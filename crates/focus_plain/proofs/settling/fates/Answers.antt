@@ -18,7 +18,7 @@ unfolding nodes_of
 loop-node-preserved c =
     let view = c.args.view.now in
     let fates = c.loop-node.fates.items in
-    let Right : Fate → Type 0 = IsFate view in
+    let Right : Fate → Type 0 = IsFate view c.args.found.now.start in
     elim c.if-eq.branch [
       | then-eq+in_ok-fate_at+in_ok-push w ↦
           let fetched = sym c.fetch.ensures ∙ same_number c.fetch.result c.args.found.now.block

@@ -34,10 +34,12 @@ loop-younger-preserved c =
     ∙ slice_get-get_or sets (length c.loop-younger.yielded) younger turn.0 ∙ ap Some (sym turn.1) in
     let exact = c.requires.exact c.loop-younger.node younger at in
     let last : PlainPlace = record { node = c.loop-younger.node; least = younger.least; most = younger.most } in
-    let right : IsPlainPlace c.args.view.now c.args.block last = record { least = exact.least; most = exact.most } in
+    let right : IsPlainPlace c.args.focus.now.view.now c.args.focus.now.start c.args.focus.now.block last = record
+    { least = exact.least; most = exact.most } in
     record {
       count = ap (λ n. n + 1) c.loop-younger.invariant.count ∙ sym (length_push c.loop-younger.yielded younger);
-      kept = kept_more c.args.view.now c.args.block c.loop-younger.places.items c.keep.new.places.items last
+      kept = kept_more c.args.focus.now.view.now c.args.focus.now.start c.args.focus.now.block
+          c.loop-younger.places.items c.keep.new.places.items last
           c.eq-fetches.result c.fetch.result
           c.in_ok-keep.ensures c.eq-fetches.ensures c.fetch.ensures c.loop-younger.invariant.kept right;
     }
@@ -47,6 +49,7 @@ returns-clause-nodes c =
     let each = yields (goal.at.returns-clause-nodes c).After-into_iter-younger-iterator in
     let end = YieldsList-end each c.loop-younger.yielded c.loop-younger.younger-iterator c.loop-younger.yielded_by
     c.next.result c.next.new.self c.in-None.is c.next.ensures.steps in
-    let all : length c.args.view.now.fetches ≡ c.loop-younger.node =
+    let all : length c.args.focus.now.view.now.fetches ≡ c.loop-younger.node =
     omega (arith, c.loop-younger.invariant.count, end.1, c.requires.one_each, c.requires.view.one_each) in
-    fetchers_all c.args.view.now.fetches c.args.block c.loop-younger.node _ all c.loop-younger.invariant.kept.nodes
+    fetchers_all c.args.focus.now.view.now.fetches c.args.focus.now.block c.loop-younger.node _ all
+    c.loop-younger.invariant.kept.nodes

@@ -5,5 +5,5 @@ use Rattle.focus_plain.proofs.settling.places.Given as goal
 abbrev pub invariant-loop-younger : goal.invariant-loop-younger
 invariant-loop-younger l = record {
   count : l.node ≡ length l.yielded;
-  kept : AreKept l.view l.block l.node l.places.items;
+  kept : AreKept l.focus.view.now l.focus.start l.focus.block l.node l.places.items;
 }

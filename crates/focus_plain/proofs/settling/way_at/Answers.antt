@@ -1,11 +1,16 @@
 use Rattle.std.proofs.Common.{sym, ◌∙◌}
-use Rattle.focus_plain.proofs.Fates.{HitsWhereSmall, noted_inside, noted_way, none_noted}
+use Rattle.focus_plain.proofs.Fates.{EndsBySets, noted_inside, noted_way, none_noted}
 use Rattle.focus_plain.proofs.settling.way_at.Goals as goal
 use Rattle.focus_plain.proofs.settling.way_at.Goals.{After-view_laws}
 
--- a fetch of the block hits where its younger set is small
-law : (c : After-view_laws) → HitsWhereSmall c.args.view.now c.args.found.now.block
-law c n earlier = c.view_laws.ensures.hits c.args.view.now n c.args.found.now.block earlier c.requires.view
+-- what a path that ends in a fetch of the block can do
+law : (c : After-view_laws) → EndsBySets c.args.view.now c.args.found.now.start c.args.found.now.block
+law c n earlier path fetches = (
+  c.view_laws.ensures.hits c.args.view.now c.args.found.now.start n c.args.found.now.block earlier c.requires.view path
+      fetches,
+  c.view_laws.ensures.misses c.args.view.now c.args.found.now.start n c.args.found.now.block earlier c.requires.view
+      path fetches,
+)
 
 pub way_of-requires-clause-inside : goal.way_of-requires-clause-inside
 way_of-requires-clause-inside c =

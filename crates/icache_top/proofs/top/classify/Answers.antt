@@ -1,4 +1,4 @@
-use Rattle.std.proofs.Common.{◌≡◌, sym, ◌∙◌, subst, List}
+use Rattle.std.proofs.Common.{sym, ◌∙◌, subst, List}
 use Rattle.std.specs.Prelude.{IfErr}
 use Rattle.std.specs.Io.KnownBytes.{Appends}
 use Rattle.byte_port.specs.Stream.{SendsPrefix}
@@ -31,6 +31,7 @@ pub send_report-requires : goal.send_report-requires
 send_report-requires g c = (
   c.args.entry,
   c.args.ask.now.geometry,
+  c.args.ask.now.start,
   found_now c.args.image.now c.args.entry c.args.ask.now c.in_ok-expanded.expanded c.in_ok-expanded.ensures.accepted
       c.in_ok-expanded.ensures.graph (λ v. v.items) c.graph.result.now c.node_verdicts.result c.in_ok-verdicts.verdicts
       c.deref.result.now

@@ -12,10 +12,10 @@ use Rattle.node_verdicts.proofs.one_set.judge_block.Goals.{In-Some}
 
 -- the node is judged right, and those that are left too
 judged_right : (c : In-Some)
-    → All (IsJudged c.args.view.now c.args.block) c.pop.new.self.items
-    × IsJudged c.args.view.now c.args.block c.in-Some.judged
+    → All (IsJudged c.args.view.now c.args.start c.args.block) c.pop.new.self.items
+    × IsJudged c.args.view.now c.args.start c.args.block c.in-Some.judged
 judged_right c =
-    All-pop (IsJudged c.args.view.now c.args.block) c.loop-judged.found.items c.pop.new.self.items
+    All-pop (IsJudged c.args.view.now c.args.start c.args.block) c.loop-judged.found.items c.pop.new.self.items
     (Some c.in-Some.judged) c.in-Some.ensures.items c.loop-judged.invariant.right
 
 -- its verdict has a slot
@@ -31,17 +31,17 @@ loop-judged-preserved c =
     let judged = c.in-Some.judged in
     let before = c.loop-judged.verdicts.items in
     let verdict = verdict_of judged.classification in
-    let right = classification_right view judged.node judged.classification (judged_right known).1.right in
-    let keeps : KeepRight view.nodes view.geometry before c.note.new.verdicts.items =
-    subst (λ (now : List Verdict). KeepRight view.nodes view.geometry before now) (sym c.note.ensures)
-    (noted_keeps view.nodes view.geometry before judged.node verdict (slot_inside known) right) in
-    let there : IsRightAt view.nodes view.geometry c.note.new.verdicts.items judged.node =
-    subst (λ (now : List Verdict). IsRightAt view.nodes view.geometry now judged.node) (sym c.note.ensures)
-    (noted_right view.nodes view.geometry before judged.node verdict (slot_inside known) right) in
+    let right = classification_right view c.args.start judged.node judged.classification (judged_right known).1.right in
+    let keeps : KeepRight view.nodes view.geometry c.args.start before c.note.new.verdicts.items =
+    subst (λ (now : List Verdict). KeepRight view.nodes view.geometry c.args.start before now) (sym c.note.ensures)
+    (noted_keeps view.nodes view.geometry c.args.start before judged.node verdict (slot_inside known) right) in
+    let there : IsRightAt view.nodes view.geometry c.args.start c.note.new.verdicts.items judged.node =
+    subst (λ (now : List Verdict). IsRightAt view.nodes view.geometry c.args.start now judged.node) (sym c.note.ensures)
+    (noted_right view.nodes view.geometry c.args.start before judged.node verdict (slot_inside known) right) in
     record {
-      keeps = keep_trans _ _ _ _ _ c.loop-judged.invariant.keeps keeps;
+      keeps = keep_trans _ _ _ _ _ _ c.loop-judged.invariant.keeps keeps;
       right = (judged_right known).0;
-      noted = noted_more view c.args.block c.loop-judged.found.items c.pop.new.self.items judged before _
+      noted = noted_more view c.args.start c.args.block c.loop-judged.found.items c.pop.new.self.items judged before _
           c.in-Some.ensures.items keeps there c.loop-judged.invariant.noted;
     }
 
@@ -50,9 +50,10 @@ loop-judged-init c =
     let view = c.args.view.now in
     let found = c.in_ok-found.found.items in
     record {
-      keeps = keep_refl view.nodes view.geometry c.args.verdicts.now.items;
-      right = all_judged view c.args.block found c.in_ok-found.ensures.nodes c.in_ok-found.ensures.classifications;
-      noted = noted_none view c.args.block found c.in_ok-found.ensures.nodes c.args.verdicts.now.items;
+      keeps = keep_refl view.nodes view.geometry c.args.start c.args.verdicts.now.items;
+      right = all_judged view c.args.start c.args.block found c.in_ok-found.ensures.nodes
+          c.in_ok-found.ensures.classifications;
+      noted = noted_none view c.args.start c.args.block found c.in_ok-found.ensures.nodes c.args.verdicts.now.items;
     }
 
 pub note-requires : goal.note-requires

@@ -6,7 +6,7 @@ use Rattle.node_verdicts.proofs.verdicts.node_verdicts.Goals as goal
 pub loop-set-preserved : goal.loop-set-preserved
 loop-set-preserved c = record {
   one_each = c.judge_set.ensures.keeps.as_many ∙ c.loop-set.invariant.one_each;
-  right = right_sets c.args.graph.now c.args.geometry.now c.loop-set.set _ _ c.judge_set.ensures.keeps
+  right = right_sets c.args.graph.now c.args.geometry.now c.args.start c.loop-set.set _ _ c.judge_set.ensures.keeps
       c.loop-set.invariant.right
       c.in_ok-judge_set.ensures.right;
   few = few_sets c.args.graph.now c.args.geometry.now c.loop-set.set c.loop-set.invariant.few

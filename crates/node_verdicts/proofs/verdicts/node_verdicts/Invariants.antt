@@ -8,6 +8,6 @@ use Rattle.node_verdicts.proofs.verdicts.node_verdicts.Given as goal
 abbrev pub invariant-loop-set : goal.invariant-loop-set
 invariant-loop-set l = record {
   one_each : length l.verdicts.items ≡ length l.graph;
-  right : (set : ℕ) → set < l.set → AreRightIn l.graph l.geometry set l.verdicts.items;
+  right : (set : ℕ) → set < l.set → AreRightIn l.graph l.geometry l.fn.start set l.verdicts.items;
   few : (set : ℕ) → set < l.set → HaveFew (addresses_of l.graph) l.geometry set;
 }

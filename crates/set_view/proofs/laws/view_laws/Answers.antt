@@ -1,9 +1,9 @@
-use Rattle.set_view.proofs.Hits.{view-hits}
+use Rattle.set_view.proofs.Hits.{view-hits, view-misses}
 use Rattle.set_view.proofs.laws.view_laws.Goals as goal
 
-pub returns : goal.returns
-returns c = record {
-  hits = λ view n block earlier is path fetched.
-      view-hits c.younger_laws.ensures.hits c.younger_laws.ensures.renamed c.graph_laws.ensures.inside view n block
-      earlier is path fetched;
-}
+pub returns-clause-hits : goal.returns-clause-hits
+returns-clause-hits c = view-hits c.warm_laws.ensures.hits c.warm_laws.ensures.renamed c.graph_laws.ensures.inside
+
+pub returns-clause-misses : goal.returns-clause-misses
+returns-clause-misses c =
+    view-misses c.warm_laws.ensures.misses c.warm_laws.ensures.renamed c.graph_laws.ensures.inside

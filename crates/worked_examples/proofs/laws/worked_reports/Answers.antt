@@ -6,11 +6,12 @@ use Rattle.hex.specs.Hex.{encode_with}
 use Rattle.flow_spec.specs.Configuration.{Configuration}
 use Rattle.report_spec.specs.Report.{IsAt}
 use Rattle.report_spec.specs.Text.{address_text, text_of}
-use Rattle.worked_examples.specs.Programs.{at}
-use Rattle.worked_examples.specs.Reports.{loop_layers, loop_lines, loop_report, loop_context_lines, loop_context_report}
+use Rattle.worked_examples.specs.Programs.{at, loop_and_rest, nop_and_stop}
+use Rattle.worked_examples.specs.Reports.{loop_layers, loop_lines, loop_report, loop_context_lines, loop_context_report, stop_lines, stop_report}
 use Rattle.worked_examples.proofs.Fates.{AreElsewhere, first_right, second_right, third_right, unreached}
 use Rattle.worked_examples.proofs.Layers.{loop_accepted}
 use Rattle.worked_examples.proofs.Listed.{places, all_text}
+use Rattle.worked_examples.proofs.Stop.{first_unknown, second_hits}
 use Rattle.worked_examples.proofs.laws.worked_reports.Goals as goal
 
 text_is : loop_report ≡ text_of loop_lines
@@ -21,11 +22,19 @@ context_text_is : loop_context_report ≡ text_of loop_context_lines
 unfolding address_text encode_with digits
 context_text_is = refl
 
-rising : IsStrictlyIncreasing places
+rising : IsStrictlyIncreasing (places loop_and_rest)
 rising zero below = lit< tt
 rising (suc zero) below = lit< tt
 rising (suc (suc zero)) below = lit< tt
 rising (suc (suc (suc k))) below = absurd (omega arith)
+
+stop_text_is : stop_report ≡ text_of stop_lines
+unfolding address_text encode_with digits
+stop_text_is = refl
+
+stop_rising : IsStrictlyIncreasing (places nop_and_stop)
+stop_rising zero below = lit< tt
+stop_rising (suc k) below = absurd (omega arith)
 
 at_second : AreElsewhere (IsAt 0x10004)
 at_second d there same = omega (arith, there, same)
@@ -45,7 +54,7 @@ returns-clause-by_address c = (
   text_is,
   record {
     rising = rising;
-    all = all_text;
+    all = all_text loop_and_rest;
     right = (
       first_right (IsAt 0x10000) refl,
       (
@@ -72,4 +81,16 @@ returns-clause-by_context c = (
       ),
     ),
   ),
+)
+
+pub returns-clause-any_start : goal.returns-clause-any_start
+returns-clause-any_start c = (
+  stop_lines,
+  stop_text_is,
+  record {
+    rising = stop_rising;
+    all = all_text nop_and_stop;
+    right = (first_unknown, (second_hits, tt));
+    greatest = tt;
+  },
 )

@@ -8,13 +8,13 @@ use Rattle.focus_values.proofs.lists.Lists.moved.Goals as goal
 
 pub returns-in_default-clause-fits : goal.returns-in_default-clause-fits
 returns-in_default-clause-fits c =
-    let g = setting_of c.args.self.now.view.now c.args.self.now.block in
+    let g = setting_of c.args.self.now.view.now c.args.self.now.start c.args.self.now.block in
     IfOk-weaker c.copy_of_both.result (IsCopy c.args.younger.now) (IsFit g)
     (λ copy same. copy_fits g c.args.younger.now copy c.requires same) c.copy_of_both.ensures
 
 pub returns-in_default-clause-value : goal.returns-in_default-clause-value
 returns-in_default-clause-value c =
-    let g = setting_of c.args.self.now.view.now c.args.self.now.block in
+    let g = setting_of c.args.self.now.view.now c.args.self.now.start c.args.self.now.block in
     IfOk-weaker c.copy_of_both.result (IsCopy c.args.younger.now)
     (λ next. marks_in g next ≡ moved (marking g) c.args.node (marks_in g c.args.younger.now))
     (λ copy same. copy_value g c.args.node c.fetched.result c.fetched.ensures.value c.args.younger.now copy
@@ -22,13 +22,13 @@ returns-in_default-clause-value c =
 
 pub returns-then-is_own-clause-fits : goal.returns-then-is_own-clause-fits
 returns-then-is_own-clause-fits c =
-    let g = setting_of c.args.self.now.view.now c.args.self.now.block in
+    let g = setting_of c.args.self.now.view.now c.args.self.now.start c.args.self.now.block in
     let some : 0 < g.ways = omega (arith, c.ways-ways.ensures.same, c.ways-ways.ensures.least) in
     IfOk-weaker c.fresh.result AreFresh (IsFit g) (λ next empty. fresh_fits g next some empty) c.fresh.ensures
 
 pub returns-then-is_own-clause-value : goal.returns-then-is_own-clause-value
 returns-then-is_own-clause-value c =
-    let g = setting_of c.args.self.now.view.now c.args.self.now.block in
+    let g = setting_of c.args.self.now.view.now c.args.self.now.start c.args.self.now.block in
     IfOk-weaker c.fresh.result AreFresh (λ next. marks_in g next ≡ moved (marking g) c.args.node
     (marks_in g c.args.younger.now))
     (λ next empty. fresh_value g c.args.node c.fetched.result c.fetched.ensures.value c.args.younger.now next
@@ -36,14 +36,14 @@ returns-then-is_own-clause-value c =
 
 pub returns-clause-fits : goal.returns-clause-fits
 returns-clause-fits c =
-    let g = setting_of c.args.self.now.view.now c.args.self.now.block in
+    let g = setting_of c.args.self.now.view.now c.args.self.now.start c.args.self.now.block in
     IfOk-weaker c.both_after.result (IsAfter c.in-Some.other c.ways-ways.result c.args.younger.now) (IsFit g)
     (λ next made. after_fits g c.args.younger.now next c.in-Some.other c.ways-ways.result c.in-Some.ensures.known
     c.ways-ways.ensures.same c.requires made) c.both_after.ensures
 
 pub returns-clause-value : goal.returns-clause-value
 returns-clause-value c =
-    let g = setting_of c.args.self.now.view.now c.args.self.now.block in
+    let g = setting_of c.args.self.now.view.now c.args.self.now.start c.args.self.now.block in
     IfOk-weaker c.both_after.result (IsAfter c.in-Some.other c.ways-ways.result c.args.younger.now)
     (λ next. marks_in g next ≡ moved (marking g) c.args.node (marks_in g c.args.younger.now))
     (λ next made. after_value g c.args.node c.fetched.result c.fetched.ensures.value c.args.younger.now next
