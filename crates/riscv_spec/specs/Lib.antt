@@ -2,5 +2,9 @@ pub mod Field
 pub mod Immediate
 pub mod Table
 pub mod Pair
+pub mod Parcel
+pub mod CompressedTable
 pub mod Encode
+pub mod EncodeParcel
 pub mod Worked
+pub mod WorkedParcels

@@ -3,8 +3,8 @@ ghost use Rattle.riscv_spec.specs.Immediate.{signed, jal_bits, branch_bits, jal_
 
 use crate::field::{field, imm12};
 
-// A number of `bits` bits, read as two's complement.
-fn sign_extended(bits: u32, number: u32) -> i32
+/// A number of `bits` bits, read as two's complement.
+pub(crate) fn sign_extended(bits: u32, number: u32) -> i32
     requires some { 0 < bits }
     requires few { bits < 31 }
     requires fits { number < 2 ^ bits }
