@@ -1,3 +1,4 @@
+pub mod Multiple
 pub mod Next
 pub mod Placed
 pub mod Found

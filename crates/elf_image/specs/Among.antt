@@ -1,19 +1,20 @@
--- The addresses at which some segments have words, and the least of them.
+-- The addresses at which some segments have items of a size, words of 4 bytes or parcels of 2, and the least of them.
 use Rattle.std.specs.Prelude.{ℕ, ◌%◌, Bool, ◌&&◌, ◌==◌, List, Option}
 use Rattle.std.specs.List.{list_any}
 use Rattle.elf_spec.specs.declared.segment.Segment.{Segment}
-use Rattle.elf_spec.specs.Word.{has_word, IsNext}
+use Rattle.elf_spec.specs.Parcel.{has_bytes}
+use Rattle.elf_spec.specs.Word.{IsNext}
 
--- the segment has a word at the address, which is a multiple of 4
-abbrev pub has_word_at : Segment → ℕ → Bool
-has_word_at segment address = address % 4 == 0 && has_word address segment
+-- the segment has an item of this size at the address, which is a multiple of the size
+abbrev pub has_item : ℕ → Segment → ℕ → Bool
+has_item size segment address = address % size == 0 && has_bytes size address segment
 
-abbrev pub some_has_word_at : List Segment → ℕ → Bool
-some_has_word_at segments address = list_any (λ segment. has_word_at segment address) segments
+abbrev pub some_has_item : ℕ → List Segment → ℕ → Bool
+some_has_item size segments address = list_any (λ segment. has_item size segment address) segments
 
--- the least word at or above an address in one segment, and in some
-abbrev pub IsNextIn : Segment → ℕ → Option ℕ → Type 0
-IsNextIn segment from next = IsNext (has_word_at segment) from next
+-- the least item at or above an address in one segment, and in some
+abbrev pub IsNextIn : ℕ → Segment → ℕ → Option ℕ → Type 0
+IsNextIn size segment from next = IsNext (has_item size segment) from next
 
-abbrev pub IsNextAmong : List Segment → ℕ → Option ℕ → Type 0
-IsNextAmong segments from next = IsNext (some_has_word_at segments) from next
+abbrev pub IsNextAmong : ℕ → List Segment → ℕ → Option ℕ → Type 0
+IsNextAmong size segments from next = IsNext (some_has_item size segments) from next

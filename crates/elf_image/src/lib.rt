@@ -1,4 +1,4 @@
-//! Executables as their segments and words.
+//! Executables as their segments, words and parcels.
 //!
 //! Stands on `elf_spec`. An `Image` is seen as its file's bytes, its executable segments in rising order of address, and
 //! its entry; `read` gives exactly the image that `elf_spec` defines, or the answer of the first test that fails.

@@ -227,6 +227,95 @@ fn segments_out_of_order_are_kept_in_order_of_address(rt: HostRuntime) -> Result
 }
 
 #[test]
+fn a_file_has_its_parcels_and_longs(rt: HostRuntime) -> Result<(), Fail> {
+    let image = small_image(rt.alloc(), FILE.to_vec(rt.alloc())?)?;
+    for (at, parcel, long) in [
+        (0x10000, Some(0x0013), Some(0x00000013)),
+        (0x10001, None, None),
+        (0x10002, Some(0x0000), Some(0x00730000)),
+        (0x10004, Some(0x0073), Some(0x00100073)),
+        (0x10005, None, None),
+        (0x10006, Some(0x0010), None),
+        (0x10007, None, None),
+        (0x10008, None, None),
+        (0xfffe, None, None),
+        (0xffff, None, None),
+        (u32::MAX, None, None),
+    ] {
+        assert_eq!(rt; image.parcel(at), parcel, "at {at}");
+        assert_eq!(rt; image.long(at), long, "at {at}");
+    }
+    for (from, next) in [
+        (0, Some(0x10000)),
+        (0x10000, Some(0x10000)),
+        (0x10001, Some(0x10002)),
+        (0x10006, Some(0x10006)),
+        (0x10007, None),
+        (u32::MAX, None),
+    ] {
+        assert_eq!(rt; image.parcel_from(from), next, "from {from}");
+    }
+    Ok(())
+}
+
+#[test]
+fn a_segment_may_end_with_the_addresses_or_within_a_parcel(rt: HostRuntime) -> Result<(), Fail> {
+    let placed = [(60, 0xf8), (61, 0xff), (62, 0xff), (63, 0xff)];
+    let top = small_image(rt.alloc(), changed(rt.alloc(), &placed)?)?;
+    assert_eq!(rt; top.parcel(0xfffffffe), Some(0x0010));
+    assert_eq!(rt; top.long(0xfffffffc), Some(0x00100073));
+    assert_eq!(rt; top.long(0xfffffffe), None);
+    assert_eq!(rt; top.parcel_from(0xfffffffd), Some(0xfffffffe));
+    assert_eq!(rt; top.parcel_from(u32::MAX), None);
+    let short = small_image(rt.alloc(), changed(rt.alloc(), &[(68, 7)])?)?;
+    assert_eq!(rt; short.parcel(0x10004), Some(0x0073));
+    assert_eq!(rt; short.parcel(0x10006), None);
+    assert_eq!(rt; short.long(0x10002), Some(0x00730000));
+    assert_eq!(rt; short.long(0x10004), None);
+    assert_eq!(rt; short.parcel_from(0x10003), Some(0x10004));
+    assert_eq!(rt; short.parcel_from(0x10005), None);
+    Ok(())
+}
+
+#[test]
+fn no_long_or_parcel_reaches_across_two_segments(rt: HostRuntime) -> Result<(), Fail> {
+    let headers = [
+        loaded(180, 0x30000, 4, 5),
+        loaded(184, 0x10000, 6, 5),
+        loaded(190, 0x10006, 5, 7),
+        loaded(195, 0x1000b, 5, 5),
+    ];
+    let words = [10, 0x12340011, 0x5678000c, 0x9abc000d, 0xdef0000e];
+    let file = file_of(rt.alloc(), 0x30000, &headers, &words)?;
+    let image = small_image(rt.alloc(), file)?;
+    for (at, parcel, long) in [
+        (0x10000, Some(0x0011), Some(0x12340011)),
+        (0x10002, Some(0x1234), Some(0x000c1234)),
+        (0x10004, Some(0x000c), None),
+        (0x10006, Some(0x5678), Some(0x000d5678)),
+        (0x10008, Some(0x000d), None),
+        (0x1000a, None, None),
+        (0x1000c, Some(0x000e), Some(0xdef0000e)),
+        (0x1000e, Some(0xdef0), None),
+        (0x30000, Some(0x000a), Some(0x0000000a)),
+        (0x30002, Some(0x0000), None),
+    ] {
+        assert_eq!(rt; image.parcel(at), parcel, "at {at}");
+        assert_eq!(rt; image.long(at), long, "at {at}");
+    }
+    for (from, next) in [
+        (0x10003, Some(0x10004)),
+        (0x10005, Some(0x10006)),
+        (0x10009, Some(0x1000c)),
+        (0x1000f, Some(0x30000)),
+        (0x30003, None),
+    ] {
+        assert_eq!(rt; image.parcel_from(from), next, "from {from}");
+    }
+    Ok(())
+}
+
+#[test]
 fn sixty_four_segments_are_kept(rt: HostRuntime) -> Result<(), Fail> {
     let mut headers = Vec::new(rt.alloc());
     let mut words = Vec::new(rt.alloc());
@@ -241,6 +330,12 @@ fn sixty_four_segments_are_kept(rt: HostRuntime) -> Result<(), Fail> {
         let at = 0x10000 + 8 * i;
         assert_eq!(rt; image.word(at), Some(63 - i), "at {at}");
         assert_eq!(rt; image.word(at + 4), None, "after {at}");
+        assert_eq!(rt; image.long(at), Some(63 - i), "at {at}");
+        assert_eq!(rt;
+            image.parcel_from(at + 3),
+            image.word_from(at + 3),
+            "from after {at}"
+        );
         let next = if i < 63 { Some(at + 8) } else { None };
         assert_eq!(rt; image.word_from(at + 1), next, "from after {at}");
     }
