@@ -5,10 +5,11 @@ pub enum Link {
     X5,
 }
 
-/// What a word does to the flow of control. Offsets are in bytes from the word's own address, and even.
+/// What a word or a parcel does to the flow of control. Offsets are in bytes from its own address, and even. A parcel is
+/// read as the instruction that it stands for: a C.J as a JAL, a C.BEQZ as a branch.
 #[derive(Clone, Copy, Debug, PartialEq, Eq)]
 pub enum Kind {
-    /// Control goes on at the next word.
+    /// Control goes on at the next instruction.
     Plain,
     /// A conditional branch.
     Branch { offset: i32 },
@@ -22,6 +23,6 @@ pub enum Kind {
     Computed,
     /// EBREAK, MRET or WFI, at which a path ends.
     Stop,
-    /// No word of the table.
+    /// No word of the table of words, or the parcel of zeros.
     Illegal,
 }
