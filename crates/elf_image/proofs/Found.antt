@@ -5,7 +5,7 @@ use Rattle.std.specs.List.Sorted.{IsNonDecreasingBy}
 use Rattle.std.proofs.lemmas.Bool.{cases_eq, cases_lt, lt-leb, and_left, and_right}
 use Rattle.std.proofs.lemmas.List.Elements.{All-head, All-tail}
 use Rattle.elf_spec.specs.declared.segment.Segment.{Segment}
-use Rattle.elf_spec.specs.Parcel.{has_bytes}
+use Rattle.elf_spec.specs.Word.{has_bytes}
 use Rattle.elf_image.specs.Fits.{EndsBefore}
 
 -- nothing is found where no element passes

@@ -10,8 +10,8 @@ use Rattle.std.proofs.Math.Nat.{mul-mod_left}
 use Rattle.elf_spec.specs.declared.segment.Segment.{Segment}
 use Rattle.elf_spec.specs.Number.{u16_at, u32_at}
 use Rattle.elf_spec.specs.Image.{Image}
-use Rattle.elf_spec.specs.Parcel.{has_bytes, parcel_at, place_in, has_parcel, HasParcel, IsNextParcel}
-use Rattle.elf_spec.specs.Word.{word_at, is_text, IsText, IsNext, IsNextText}
+use Rattle.elf_spec.specs.Parcel.{parcel_at, has_parcel, HasParcel, IsNextParcel}
+use Rattle.elf_spec.specs.Word.{has_bytes, place_in, word_at, is_text, IsText, IsNext, IsNextText}
 use Rattle.elf_image.specs.Among.{has_item, some_has_item, IsNextIn, IsNextAmong}
 use Rattle.elf_image.specs.Fits.{EndsBefore, SegmentFits}
 use Rattle.elf_image.proofs.Found.{bytes_after}

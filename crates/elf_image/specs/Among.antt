@@ -2,8 +2,7 @@
 use Rattle.std.specs.Prelude.{ℕ, ◌%◌, Bool, ◌&&◌, ◌==◌, List, Option}
 use Rattle.std.specs.List.{list_any}
 use Rattle.elf_spec.specs.declared.segment.Segment.{Segment}
-use Rattle.elf_spec.specs.Parcel.{has_bytes}
-use Rattle.elf_spec.specs.Word.{IsNext}
+use Rattle.elf_spec.specs.Word.{has_bytes, IsNext}
 
 -- the segment has an item of this size at the address, which is a multiple of the size
 abbrev pub has_item : ℕ → Segment → ℕ → Bool

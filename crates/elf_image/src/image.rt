@@ -1,8 +1,8 @@
 ghost use Rattle.std.specs.Prelude.{◌≡◌, ℕ, ◌+◌, ◌-◌, ◌^◌, ◌<◌, ◌≤◌, length, find, option_map, IfSome, Contains, IsTrue, All, AllPairs};
 ghost use Rattle.std.specs.List.{AllWithin};
 ghost use Rattle.elf_spec.specs.Number.{u32_at};
-ghost use Rattle.elf_spec.specs.Parcel.{has_bytes, segment_with, place_in, parcel_at, long_at, HasParcel, IsNextParcel};
-ghost use Rattle.elf_spec.specs.Word.{word_at, IsText, IsNextText};
+ghost use Rattle.elf_spec.specs.Parcel.{parcel_at, long_at, HasParcel, IsNextParcel};
+ghost use Rattle.elf_spec.specs.Word.{has_bytes, segment_with, place_in, word_at, IsText, IsNextText};
 ghost use Rattle.elf_image.specs.Among.{IsNextIn, IsNextAmong};
 ghost use Rattle.elf_image.specs.Fits.{EndsBefore, Fits};
 

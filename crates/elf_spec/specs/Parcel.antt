@@ -1,21 +1,8 @@
 -- The parcels of an image, of two bytes each, and the longs, of four, which begin at any even address.
-use Rattle.std.specs.Prelude.{ℕ, ◌+◌, ◌-◌, ◌%◌, Bool, ◌&&◌, Option, None, option_map, find, nat_le, ◌==◌, if◌then◌else◌, is_some, IsTrue}
-use Rattle.elf_spec.specs.declared.segment.Segment.{Segment}
+use Rattle.std.specs.Prelude.{ℕ, ◌%◌, Bool, Option, None, option_map, ◌==◌, if◌then◌else◌, is_some, IsTrue}
 use Rattle.elf_spec.specs.Number.{u16_at, u32_at}
 use Rattle.elf_spec.specs.Image.{Image}
-use Rattle.elf_spec.specs.Word.{IsNext}
-
--- this many bytes from an address on lie in the segment
-abbrev pub has_bytes : ℕ → ℕ → Segment → Bool
-has_bytes count address segment = nat_le segment.at address && nat_le (address + count) (segment.at + segment.size)
-
--- the segment in which they lie
-abbrev pub segment_with : ℕ → Image → ℕ → Option Segment
-segment_with count image address = find (has_bytes count address) image.segments
-
--- where the byte at an address of a segment lies in the file
-abbrev pub place_in : Segment → ℕ → ℕ
-place_in segment address = segment.offset + (address - segment.at)
+use Rattle.elf_spec.specs.Word.{segment_with, place_in, IsNext}
 
 -- the parcel at an address: a multiple of 2 whose two bytes lie in one segment, read as little endian
 unfoldable pub parcel_at : Image → ℕ → Option ℕ

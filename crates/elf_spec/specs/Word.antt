@@ -4,16 +4,23 @@ use Rattle.elf_spec.specs.declared.segment.Segment.{Segment}
 use Rattle.elf_spec.specs.Number.{u32_at}
 use Rattle.elf_spec.specs.Image.{Image}
 
--- all four bytes at an address lie in the segment
-abbrev pub has_word : ℕ → Segment → Bool
-has_word address segment = nat_le segment.at address && nat_le (address + 4) (segment.at + segment.size)
+-- this many bytes from an address on lie in the segment
+abbrev pub has_bytes : ℕ → ℕ → Segment → Bool
+has_bytes count address segment = nat_le segment.at address && nat_le (address + count) (segment.at + segment.size)
+
+-- the first segment in which they lie
+abbrev pub segment_with : ℕ → Image → ℕ → Option Segment
+segment_with count image address = find (has_bytes count address) image.segments
+
+-- where the byte at an address of a segment lies in the file
+abbrev pub place_in : Segment → ℕ → ℕ
+place_in segment address = segment.offset + (address - segment.at)
 
 -- the word at an address: a multiple of 4 whose four bytes lie in one segment, read as little endian
 unfoldable pub word_at : Image → ℕ → Option ℕ
 word_at image address =
     if address % 4 == 0
-    then option_map (λ segment. u32_at image.file (segment.offset + (address - segment.at)))
-    (find (has_word address) image.segments)
+    then option_map (λ segment. u32_at image.file (place_in segment address)) (segment_with 4 image address)
     else None
 
 -- the address is in the text

@@ -4,7 +4,7 @@ use Rattle.std.specs.Prelude.{Bool, true, false, ◌↔◌, ◌==◌, Contains, 
 use Rattle.std.proofs.lemmas.Bool.Decides.{nat_tests}
 use Rattle.elf_spec.specs.declared.segment.Segment.{Segment}
 use Rattle.elf_spec.specs.Number.{u32_at}
-use Rattle.elf_spec.specs.Word.{word_at, has_word, IsText}
+use Rattle.elf_spec.specs.Word.{has_bytes, word_at, IsText}
 use Rattle.report_spec.specs.Report.{words_from}
 use Rattle.worked_examples.specs.Programs.{program_of, file_of}
 
@@ -41,11 +41,11 @@ module _ (words : List ℕ) where
   abbrev block : Segment
   block = record { at = 0x10000; size = 4 * length words; offset = 84 }
 
-  inside : (p : ℕ) → IsText (program_of words) p → ((p % 4 == 0) ≡ true) × (has_word p block ≡ true)
+  inside : (p : ℕ) → IsText (program_of words) p → ((p % 4 == 0) ≡ true) × (has_bytes 4 p block ≡ true)
   unfolding word_at
-  inside p text = both (p % 4 == 0) (has_word p block) (λ s. u32_at (file_of words) (s.offset + (p - s.at))) block text
+  inside p text = both (p % 4 == 0) (has_bytes 4 p block) (λ s. u32_at (file_of words) (s.offset + (p - s.at))) block text
 
-  place_of : (p : ℕ) → (p % 4 == 0) ≡ true → has_word p block ≡ true → Contains places p
+  place_of : (p : ℕ) → (p % 4 == 0) ≡ true → has_bytes 4 p block ≡ true → Contains places p
   place_of p whole has =
       let i = (p - 0x10000) / 4 in
       let same : 0x10000 + 4 * i ≡ p = grind (arith, nat_tests) in
@@ -57,7 +57,7 @@ module _ (words : List ℕ) where
   is_text i below =
       let p = 0x10000 + 4 * i in
       let whole : (p % 4 == 0) ≡ true = grind (arith, nat_tests) in
-      let has : has_word p block ≡ true = grind (arith, nat_tests) in
+      let has : has_bytes 4 p block ≡ true = grind (arith, nat_tests) in
       rw (whole, has) refl
 
   pub all_text : (p : ℕ) → Contains places p ↔ IsText (program_of words) p

@@ -1,7 +1,7 @@
 use Rattle.std.proofs.Common.{◌≡◌, ◌-◌, false, get_or, sym, subst, arith}
 use Rattle.std.proofs.lemmas.List.{get_or_default}
 use Rattle.elf_spec.specs.declared.segment.Segment.{Segment}
-use Rattle.elf_spec.specs.Parcel.{has_bytes}
+use Rattle.elf_spec.specs.Word.{has_bytes}
 use Rattle.elf_image.proofs.Found.{find_none, found_last, found_nowhere, bytes_before}
 use Rattle.elf_image.proofs.image.segment_of.Goals as goal
 
