@@ -4,7 +4,7 @@ use Rattle.std.specs.Prelude.{flat_map}
 use Rattle.std.specs.List.{AllByRecursion, AllZip}
 use Rattle.std.specs.List.Sorted.{IsPermutation, IsSorted}
 use Rattle.std.proofs.lemmas.List.{map-append, length-map, length-take-le, take_at, drop_at}
-use Rattle.elf_spec.specs.Image.{Image}
+use Rattle.flow_spec.specs.Program.{Program}
 use Rattle.flow_spec.specs.Acceptance.{Step, IsFaultless, IsRefused, fetch_limit}
 use Rattle.flow_spec.specs.Configuration.{Configuration}
 use Rattle.flow_spec.specs.Order.{configuration_cmp}
@@ -24,33 +24,33 @@ use Rattle.call_expand.proofs.Edges.{same-point, same-configurations, same-edge,
 use Rattle.call_expand.proofs.Layer.{are_next, are_new}
 
 -- what holds of the layers stays, where there are more cells
-walked-same : (step : Step) (image : Image) (entry : ℕ) (before after : List StackCell) (first last : List Point)
+walked-same : (step : Step) (program : Program) (before after : List StackCell) (first last : List Point)
     → GoesOn before after
-    → ArePoints image before first → ArePoints image before last
-    → IsWalked step image entry (configurations_at before first) (configurations_at before last)
-    → IsWalked step image entry (configurations_at after first) (configurations_at after last)
-walked-same step image entry before after first last goes_on are_first are_last walked =
-    let P : List Configuration → Type 0 = λ cs. IsWalked step image entry cs (configurations_at before last) in
-    let Q : List Configuration → Type 0 = λ cs. IsWalked step image entry (configurations_at after first) cs in
-    subst Q (sym (same-configurations image before after last goes_on are_last))
-    (subst P (sym (same-configurations image before after first goes_on are_first)) walked)
+    → ArePoints program before first → ArePoints program before last
+    → IsWalked step program (configurations_at before first) (configurations_at before last)
+    → IsWalked step program (configurations_at after first) (configurations_at after last)
+walked-same step program before after first last goes_on are_first are_last walked =
+    let P : List Configuration → Type 0 = λ cs. IsWalked step program cs (configurations_at before last) in
+    let Q : List Configuration → Type 0 = λ cs. IsWalked step program (configurations_at after first) cs in
+    subst Q (sym (same-configurations program before after last goes_on are_last))
+    (subst P (sym (same-configurations program before after first goes_on are_first)) walked)
 
-module _ {image : Image} {entry : ℕ} {cells : List StackCell} {points : List Point} {edges : List Edges} {start : ℕ}
-    (at : IsAt image entry cells points edges start) where
+module _ {program : Program} {cells : List StackCell} {points : List Point} {edges : List Edges} {start : ℕ}
+    (at : IsAt program cells points edges start) where
   -- the points before the layer, and those of the layer
   cut : take start points ++ drop start points ≡ points
   cut = take-append-drop start points
 
   -- the points before the layer, and those of the layer, are points
-  are_first : ArePoints image cells (take start points)
+  are_first : ArePoints program cells (take start points)
   are_first =
-      let P : List Point → Type 0 = ArePoints image cells in
-      all-prefix (IsPoint image cells) (take start points) (drop start points) (subst P (sym cut) at.are_points)
+      let P : List Point → Type 0 = ArePoints program cells in
+      all-prefix (IsPoint program cells) (take start points) (drop start points) (subst P (sym cut) at.are_points)
 
-  pub are_last : ArePoints image cells (drop start points)
+  pub are_last : ArePoints program cells (drop start points)
   are_last =
-      let P : List Point → Type 0 = ArePoints image cells in
-      all-back (IsPoint image cells) (take start points) (drop start points) (subst P (sym cut) at.are_points)
+      let P : List Point → Type 0 = ArePoints program cells in
+      all-back (IsPoint program cells) (take start points) (drop start points) (subst P (sym cut) at.are_points)
 
   -- there are no more points than the limit
   pub few-points : length points ≤ fetch_limit
@@ -67,28 +67,28 @@ module _ {image : Image} {entry : ℕ} {cells : List StackCell} {points : List P
 
   -- a fault of the layer refuses the program
   pub refused_here : {seen : List Point} → seen ≡ points → (fault : FlowFault)
-      → FailsAt (successors image entry) (configurations_at cells (drop start seen)) fault
-      → IsRefused (successors image entry) image entry fault
+      → FailsAt (successors program) (configurations_at cells (drop start seen)) fault
+      → IsRefused (successors program) program fault
   refused_here same fault fails =
       let P : List Point → Type 0 =
-      λ ps. FailsAt (successors image entry) (configurations_at cells (drop start ps)) fault in
-      inr (inl (faulty (successors image entry) image entry (configurations_at cells (take start points))
+      λ ps. FailsAt (successors program) (configurations_at cells (drop start ps)) fault in
+      inr (inl (faulty (successors program) program (configurations_at cells (take start points))
       (configurations_at cells (drop start points)) at.walked fault (subst P same fails)))
 
   module _ (after : List StackCell) (more : List Edges) (found new : List Point) (goes_on : GoesOn cells after)
       (are_cells : AreCells after)
-      (each : AllZip (IsEdge (successors image entry) image after) (drop start points) more)
+      (each : AllZip (IsEdge (successors program) program after) (drop start points) more)
       (same : IsPermutation (flat_map points_of more) found) (sorted : IsSorted (point_cmp after) found)
       (are : AreNew points found new) where
     -- with more cells they are so still
-    still_first : ArePoints image after (take start points)
+    still_first : ArePoints program after (take start points)
     still_first =
-        all-weaker (IsPoint image cells) (IsPoint image after) (same-point image cells after goes_on)
+        all-weaker (IsPoint program cells) (IsPoint program after) (same-point program cells after goes_on)
         (take start points) are_first
 
-    still_last : ArePoints image after (drop start points)
+    still_last : ArePoints program after (drop start points)
     still_last =
-        all-weaker (IsPoint image cells) (IsPoint image after) (same-point image cells after goes_on)
+        all-weaker (IsPoint program cells) (IsPoint program after) (same-point program cells after goes_on)
         (drop start points) are_last
 
     -- the new ones are new beside both
@@ -96,23 +96,23 @@ module _ {image : Image} {entry : ℕ} {cells : List StackCell} {points : List P
     are_cut = let P : List Point → Type 0 = λ seen. AreNew seen found new in subst P (sym cut) are
 
     -- the layers are those of the points with more cells
-    walked : IsWalked (successors image entry) image entry (configurations_at after (take start points))
+    walked : IsWalked (successors program) program (configurations_at after (take start points))
         (configurations_at after (drop start points))
     walked =
-        walked-same (successors image entry) image entry cells after (take start points) (drop start points) goes_on
+        walked-same (successors program) program cells after (take start points) (drop start points) goes_on
         are_first are_last at.walked
 
     -- no point of the layer has a fault
-    faultless : AllByRecursion (IsFaultless (successors image entry)) (configurations_at after (drop start points))
+    faultless : AllByRecursion (IsFaultless (successors program)) (configurations_at after (drop start points))
     faultless =
-        edges-faultless (successors image entry) image after after (goes_on-refl after) (drop start points) more
+        edges-faultless (successors program) program after after (goes_on-refl after) (drop start points) more
         still_last each
 
     -- the new ones are the next layer
-    next : AreNext (successors image entry) configuration_cmp (configurations_at after (take start points))
+    next : AreNext (successors program) configuration_cmp (configurations_at after (take start points))
         (configurations_at after (drop start points)) (configurations_at after new)
     next =
-        are_next (successors image entry) image after (take start points) (drop start points) more found new are_cells
+        are_next (successors program) program after (take start points) (drop start points) more found new are_cells
         still_first still_last each same
         sorted are_cut
 
@@ -133,69 +133,69 @@ module _ {image : Image} {entry : ℕ} {cells : List StackCell} {points : List P
 
     -- the next layer passes the limit
     pub passes_limit : fetch_limit < length (points ++ new)
-        → IsRefused (successors image entry) image entry (TooManyFetches fetch_limit)
+        → IsRefused (successors program) program (TooManyFetches fetch_limit)
     passes_limit many =
-        inr (inr (too_many (successors image entry) image entry (configurations_at after (take start points))
+        inr (inr (too_many (successors program) program (configurations_at after (take start points))
         (configurations_at after (drop start points)) walked (configurations_at after new) faultless next
         (omega (arith, many, as_many))))
 
     -- else the search is at it
     pub at_next : length after ≤ length cells + length (drop start points) → length (points ++ new) ≤ fetch_limit
-        → IsAt image entry after (points ++ new) (edges ++ more) (length points)
+        → IsAt program after (points ++ new) (edges ++ more) (length points)
     at_next room few =
         let Each : List Point → Type 0 =
-        λ ps. AllZip (IsEdge (successors image entry) image after) ps (edges ++ more) in
+        λ ps. AllZip (IsEdge (successors program) program after) ps (edges ++ more) in
         let prefix : take (length points) (points ++ new) ≡ points = take_at points new (length points) refl in
         let back : drop (length points) (points ++ new) ≡ new = drop_at points new (length points) refl in
-        let Points : List Point → Type 0 = ArePoints image after in
+        let Points : List Point → Type 0 = ArePoints program after in
         let Before : List Configuration → Type 0 =
-        λ cs. IsWalked (successors image entry) image entry cs (configurations_at after new) in
+        λ cs. IsWalked (successors program) program cs (configurations_at after new) in
         let Last : List Point → Type 0 =
-        λ ps. IsWalked (successors image entry) image entry
+        λ ps. IsWalked (successors program) program
         (configurations_at after (take (length points) (points ++ new))) (configurations_at after ps) in
         record {
           are_cells = are_cells;
           are_points =
-              all-append (IsPoint image after) points new
-              (all-weaker (IsPoint image cells) (IsPoint image after) (same-point image cells after goes_on) points
-              at.are_points)
-              (are_new (successors image entry) image after (take start points) (drop start points) more found new
+              all-append (IsPoint program after) points new
+              (all-weaker (IsPoint program cells) (IsPoint program after) (same-point program cells after goes_on)
+              points at.are_points)
+              (are_new (successors program) program after (take start points) (drop start points) more found new
               are_cells still_first still_last
               each same sorted are_cut);
           within = omega (arith, length-append points new);
           each =
               subst Each (cut ∙ sym prefix)
-              (zip-append (IsEdge (successors image entry) image after) (take start points) (drop start points) edges
+              (zip-append (IsEdge (successors program) program after) (take start points) (drop start points) edges
               more
-              (zip-weaker (IsPoint image cells) (IsEdge (successors image entry) image cells)
-              (IsEdge (successors image entry) image after)
-              (same-edge (successors image entry) image cells after goes_on) (take start points) edges are_first
+              (zip-weaker (IsPoint program cells) (IsEdge (successors program) program cells)
+              (IsEdge (successors program) program after)
+              (same-edge (successors program) program cells after goes_on) (take start points) edges are_first
               at.each)
               each);
           room = omega (arith, room, at.room, at.within, length-drop start points);
           walked =
               subst Last (sym back)
               (subst Before (whole ∙ ap (configurations_at after) (sym prefix))
-              (walked_more (successors image entry) image entry (configurations_at after (take start points))
+              (walked_more (successors program) program (configurations_at after (take start points))
               (configurations_at after (drop start points)) walked (configurations_at after new) faultless next
               (omega (arith, few, as_many))));
         }
 
   -- the layer is followed, from points that are those so far
   module _ {seen : List Point} (seen_is : seen ≡ points) {after : List StackCell} {after_edges : List Edges}
-      (seen_followed : AreAllFollowed (successors image entry) image cells after (drop start seen) edges after_edges)
+      (seen_followed : AreAllFollowed (successors program) program cells after (drop start seen) edges after_edges)
     where
       -- the layer of the points so far is followed
-      followed : AreAllFollowed (successors image entry) image cells after (drop start points) edges after_edges
+      followed : AreAllFollowed (successors program) program cells after (drop start points) edges after_edges
       followed =
           let P : List Point → Type 0 =
-          λ ps. AreAllFollowed (successors image entry) image cells after (drop start ps) edges after_edges in
+          λ ps. AreAllFollowed (successors program) program cells after (drop start ps) edges after_edges in
           subst P seen_is seen_followed
 
       -- there were edges for the points before the layer
       edges-long : length edges ≡ start
       edges-long =
-          sym (zip-length (IsEdge (successors image entry) image cells) (take start points) edges at.each)
+          sym (zip-length (IsEdge (successors program) program cells) (take start points) edges at.each)
           ∙ length-take-le start points at.within
 
       -- there are edges for each point so far
@@ -206,7 +206,7 @@ module _ {image : Image} {entry : ℕ} {cells : List StackCell} {points : List P
             ap length followed.is,
             length-append edges followed.more,
             edges-long,
-            sym (zip-length (IsEdge (successors image entry) image after) (drop start points) followed.more
+            sym (zip-length (IsEdge (successors program) program after) (drop start points) followed.more
                 followed.each),
             length-drop start points,
             at.within,
@@ -227,7 +227,7 @@ module _ {image : Image} {entry : ℕ} {cells : List StackCell} {points : List P
 
         -- with the next layer the limit is passed
         pub layer_passes_limit : fetch_limit < length after_points
-            → IsRefused (successors image entry) image entry (TooManyFetches fetch_limit)
+            → IsRefused (successors program) program (TooManyFetches fetch_limit)
         layer_passes_limit many =
             passes_limit after followed.more numbered.found numbered.new followed.goes_on are_cells followed.each
             same_more numbered.sorted numbered.are
@@ -235,10 +235,10 @@ module _ {image : Image} {entry : ℕ} {cells : List StackCell} {points : List P
 
         -- within the limit the search is at the next layer
         pub layer_next : length after_points ≤ fetch_limit
-            → IsAt image entry after after_points after_edges (length points)
+            → IsAt program after after_points after_edges (length points)
         layer_next few =
-            let Q : List Point → Type 0 = λ ps. IsAt image entry after ps after_edges (length points) in
-            let R : List Edges → Type 0 = λ es. IsAt image entry after (points ++ numbered.new) es (length points) in
+            let Q : List Point → Type 0 = λ ps. IsAt program after ps after_edges (length points) in
+            let R : List Edges → Type 0 = λ es. IsAt program after (points ++ numbered.new) es (length points) in
             subst Q (sym numbered.is)
             (subst R (sym followed.is)
             (at_next after followed.more numbered.found numbered.new followed.goes_on are_cells followed.each same_more

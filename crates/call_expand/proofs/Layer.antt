@@ -10,7 +10,7 @@ use Rattle.std.proofs.lemmas.List.{map-append}
 use Rattle.std.proofs.lemmas.List.Elements.{Contains-append_left, Contains-append_right, Contains-append_cases}
 use Rattle.std.proofs.lemmas.List.Sorted.{Contains-permutation, IsPermutation-sym}
 use Rattle.list_lemmas.proofs.Members.{has-none, has-first, has-later, has-cases, has-map, from-map, each-has, all-from_each}
-use Rattle.elf_spec.specs.Image.{Image}
+use Rattle.flow_spec.specs.Program.{Program}
 use Rattle.transition_spec.specs.Path.{IsSuccessor}
 use Rattle.flow_spec.specs.Acceptance.{Step}
 use Rattle.flow_spec.specs.Configuration.{Configuration}
@@ -36,9 +36,10 @@ unfolding IsStrictlySortedBy
 sorted-map order f [] sorted = tt
 sorted-map order f (x ∷ xs) sorted = (all-map (λ y. order (f x) y ≡ Less) f xs sorted.0, sorted-map order f xs sorted.1)
 
-module _ (step : Step) (image : Image) (cells : List StackCell) where
+module _ (step : Step) (program : Program) (cells : List StackCell) where
   -- a point that some edges lead to is a successor of one that they leave
-  pub edge-from : (points : List Point) (edges : List Edges) (p : Point) → AllZip (IsEdge step image cells) points edges
+  pub edge-from : (points : List Point) (edges : List Edges) (p : Point)
+      → AllZip (IsEdge step program cells) points edges
       → Contains (flat_map points_of edges) p
       → (q : Point) × Contains points q × IsSuccessor step (configuration_at cells q) (configuration_at cells p)
   edge-from [] [] p each has = absurd (has-none p has)
@@ -55,7 +56,7 @@ module _ (step : Step) (image : Image) (cells : List StackCell) where
 
   -- a successor of such a one is a point that they lead to
   pub edge-to : (points : List Point) (edges : List Edges) (q : Point) (c : Configuration)
-      → AllZip (IsEdge step image cells) points edges
+      → AllZip (IsEdge step program cells) points edges
       → Contains points q → IsSuccessor step (configuration_at cells q) c
       → (p : Point) × Contains (flat_map points_of edges) p × (configuration_at cells p ≡ c)
   edge-to [] edges q c each has follows = absurd (has-none q has)
@@ -74,34 +75,34 @@ module _ (step : Step) (image : Image) (cells : List StackCell) where
       (has-cases first q points has)
 
   -- the points that edges lead to are in the text, on stacks that the cells make
-  pub edges-points : (points : List Point) (edges : List Edges) → AllZip (IsEdge step image cells) points edges
-      → ArePoints image cells (flat_map points_of edges)
+  pub edges-points : (points : List Point) (edges : List Edges) → AllZip (IsEdge step program cells) points edges
+      → ArePoints program cells (flat_map points_of edges)
   edges-points [] [] each = tt
   edges-points [] (edge ∷ edges) each = absurd each
   edges-points (q ∷ points) [] each = absurd each
   edges-points (q ∷ points) (edge ∷ edges) each =
-      all-append (IsPoint image cells) (points_of edge) (flat_map points_of edges) each.0.points
+      all-append (IsPoint program cells) (points_of edge) (flat_map points_of edges) each.0.points
       (edges-points points edges each.1)
 
   module _ (before last : List Point) (more : List Edges) (found new : List Point) (are_cells : AreCells cells)
-      (are_before : ArePoints image cells before) (are_last : ArePoints image cells last)
-      (each : AllZip (IsEdge step image cells) last more)
+      (are_before : ArePoints program cells before) (are_last : ArePoints program cells last)
+      (each : AllZip (IsEdge step program cells) last more)
       (same : IsPermutation (flat_map points_of more) found) (sorted : IsSorted (point_cmp cells) found)
       (are : AreNew (before ++ last) found new) where
     -- what is found are points
-    pub are_found : ArePoints image cells found
-    are_found = all-from_each (IsPoint image cells) found (λ p has.
-        each-has (IsPoint image cells) (flat_map points_of more) (edges-points last more each) p
+    pub are_found : ArePoints program cells found
+    are_found = all-from_each (IsPoint program cells) found (λ p has.
+        each-has (IsPoint program cells) (flat_map points_of more) (edges-points last more each) p
         (Contains-permutation found (flat_map points_of more) p (IsPermutation-sym (flat_map points_of more) found same)
         has))
 
     -- the new ones are points
-    pub are_new : ArePoints image cells new
-    are_new = all-from_each (IsPoint image cells) new (λ p has.
-        each-has (IsPoint image cells) found are_found p (new-listed found (before ++ last) new are p has))
+    pub are_new : ArePoints program cells new
+    are_new = all-from_each (IsPoint program cells) new (λ p has.
+        each-has (IsPoint program cells) found are_found p (new-listed found (before ++ last) new are p has))
 
     -- points of one configuration among these are the same
-    one_point : (a b : Point) → IsPoint image cells a → IsPoint image cells b
+    one_point : (a b : Point) → IsPoint program cells a → IsPoint program cells b
         → configuration_at cells a ≡ configuration_at cells b → a ≡ b
     one_point a b first second is = same_point cells a b are_cells first.known second.known is
 
@@ -116,7 +117,7 @@ module _ (step : Step) (image : Image) (cells : List StackCell) where
     are_next = record {
       sorted =
           sorted-map configuration_cmp (configuration_at cells) new
-          (new-sorted (point_cmp cells) (IsPoint image cells) (point_total cells)
+          (new-sorted (point_cmp cells) (IsPoint program cells) (point_total cells)
           (λ a b first second tie. one_point a b first second
           (same-from_equal (configuration_at cells a) (configuration_at cells b) tie)) found
           (before ++ last) new are_found sorted are);
@@ -132,9 +133,9 @@ module _ (step : Step) (image : Image) (cells : List StackCell) where
           let p = from-map (configuration_at cells) new c has in
           let P : List Configuration → Type 0 = λ cs. Contains cs c in
           let q = from-map (configuration_at cells) (before ++ last) c (subst P (sym before_last) old) in
-          let are_old = all-append (IsPoint image cells) before last are_before are_last in
-          let one = one_point q.0 p.0 (each-has (IsPoint image cells) (before ++ last) are_old q.0 q.1)
-          (each-has (IsPoint image cells) new are_new p.0 p.1) (q.2 ∙ sym p.2) in
+          let are_old = all-append (IsPoint program cells) before last are_before are_last in
+          let one = one_point q.0 p.0 (each-has (IsPoint program cells) (before ++ last) are_old q.0 q.1)
+          (each-has (IsPoint program cells) new are_new p.0 p.1) (q.2 ∙ sym p.2) in
           let Q : Point → Type 0 = λ p. Contains (before ++ last) p in
           new-unseen found (before ++ last) new are p.0 p.1 (subst Q one q.1);
       all = λ b c has follows.

@@ -3,7 +3,7 @@ use Rattle.std.proofs.Common.{◌≡◌, ℕ, zero, suc, ◌+◌, ◌<◌, ◌�
 use Rattle.std.specs.Prelude.{slice_get, Contains, MatchOption, flat_map}
 use Rattle.std.specs.Option.{option_to_list}
 use Rattle.std.proofs.lemmas.List.Concat.{flat_map-append}
-use Rattle.std.specs.Ordering.{is_eq, nat_cmp}
+use Rattle.std.specs.Ordering.{is_eq, nat_cmp, ordering_then}
 use Rattle.std.specs.BTreeMap.{BTreeMap, get, Updates}
 use Rattle.std.specs.declared.cmp.Ordering.{Ordering}
 use Rattle.std.specs.declared.cmp.Ordering.TheVariants.{Less, Equal, Greater}
@@ -14,13 +14,13 @@ use Rattle.path_model.specs.declared.graph.Node.{Node}
 use Rattle.call_expand.specs.declared.point.Point.{Point}
 use Rattle.call_expand.specs.declared.point.Edges.{Edges}
 use Rattle.call_expand.specs.Point.{points_of}
-use Rattle.call_expand.specs.Numbers.{pair_cmp, AreApart, AreNumbers, AreNew, IsAdded, IsNodeFor, AreNodesFor, AreAmong}
+use Rattle.call_expand.specs.Numbers.{Key, key_of, key_cmp, AreApart, AreNumbers, AreNew, IsAdded, IsNodeFor, AreNodesFor, AreAmong}
 use Rattle.call_expand.proofs.Zipped.{all-prefix, all-back}
-use Rattle.call_expand.proofs.Ordered.{point-parts, then_equal, nat_equal}
+use Rattle.call_expand.proofs.Ordered.{point-fields, then_equal, nat_equal}
 
--- the numbers of pairs
+-- the numbers of keys
 abbrev pub Numbers : Type 0
-Numbers = BTreeMap (ℕ × ℕ) ℕ
+Numbers = BTreeMap Key ℕ
 
 -- a listed point stands somewhere
 pub stands : (points : List Point) (p : Point) → Contains points p → (n : ℕ) × (slice_get points n ≡ Some p)
@@ -32,18 +32,23 @@ listed-at points n p at = (n, slice_get_within points n p at, get_or_from_slice_
 
 -- what the map has of a point is its number, or it isn't listed
 pub number-found : (points : List Point) (numbers : Numbers) → AreNumbers points numbers → (p : Point) (o : Option ℕ)
-    → o ≡ get pair_cmp numbers (p.at, p.stack)
+    → o ≡ get key_cmp numbers (key_of p)
     → MatchOption o (Contains points p → ⊥) (λ n. slice_get points n ≡ Some p)
 number-found points numbers are p None is =
     λ has. let at = stands points p has in none-some at.0 (is ∙ are.found at.0 p at.1)
 number-found points numbers are p (Some n) is = are.only n p (sym is)
 
 -- keys that are compared as equal are those of one point
-same-key : (p q : Point) → pair_cmp (p.at, p.stack) (q.at, q.stack) ≡ Equal → p ≡ q
+same-key : (p q : Point) → key_cmp (key_of p) (key_of q) ≡ Equal → p ≡ q
 same-key p q equal =
-    let both = then_equal (nat_cmp p.at q.at) (nat_cmp p.stack q.stack) equal in
-    point-parts p.at q.at p.stack q.stack (nat_equal p.at q.at (nat_cmp p.at q.at) refl both.0)
-    (nat_equal p.stack q.stack (nat_cmp p.stack q.stack) refl both.1)
+    let at = nat_cmp p.at q.at in
+    let part = nat_cmp p.part q.part in
+    let stack = nat_cmp p.stack q.stack in
+    let both = then_equal (ordering_then at part) stack equal in
+    let first = then_equal at part both.0 in
+    point-fields p.at q.at p.part q.part p.stack q.stack (nat_equal p.at q.at at refl first.0)
+    (nat_equal p.part q.part part refl first.1)
+    (nat_equal p.stack q.stack stack refl both.1)
 
 -- a test of an order, and its cases
 is-equal : (o : Ordering) → is_eq o ≡ true → o ≡ Equal
@@ -85,37 +90,37 @@ last-push points p =
 -- the map with one more point
 pub numbers-push : (points : List Point) (before after : Numbers) (p : Point) (number : ℕ) → number ≡ length points
     → AreNumbers points before
-    → (Contains points p → ⊥) → Updates pair_cmp before after (p.at, p.stack) (Some number)
+    → (Contains points p → ⊥) → Updates key_cmp before after (key_of p) (Some number)
     → AreNumbers (points ++ p ∷ []) after
 numbers-push points before after p number is_length are new updates = record {
   found = λ n q at.
       ⊎_elim
       (λ (last : (n ≡ length points) × (p ≡ q)).
-      let P : Point → Type 0 = λ q. get pair_cmp after (q.at, q.stack) ≡ Some n in
+      let P : Point → Type 0 = λ q. get key_cmp after (key_of q) ≡ Some n in
       subst P last.1 (updates.1 ∙ ap Some (is_length ∙ sym last.0)))
       (λ (prefix : slice_get points n ≡ Some q).
       ⊎_elim
-      (λ (same : is_eq (pair_cmp (p.at, p.stack) (q.at, q.stack)) ≡ true).
-      let one : p ≡ q = same-key p q (is-equal (pair_cmp (p.at, p.stack) (q.at, q.stack)) same) in
+      (λ (same : is_eq (key_cmp (key_of p) (key_of q)) ≡ true).
+      let one : p ≡ q = same-key p q (is-equal (key_cmp (key_of p) (key_of q)) same) in
       let P : Point → Type 0 = λ q. slice_get points n ≡ Some q in
       absurd (new (listed-at points n p (subst P (sym one) prefix))))
-      (λ (other : is_eq (pair_cmp (p.at, p.stack) (q.at, q.stack)) ≡ false).
-      updates.2 (q.at, q.stack) other ∙ are.found n q prefix)
-      (bool-cases (is_eq (pair_cmp (p.at, p.stack) (q.at, q.stack)))))
+      (λ (other : is_eq (key_cmp (key_of p) (key_of q)) ≡ false).
+      updates.2 (key_of q) other ∙ are.found n q prefix)
+      (bool-cases (is_eq (key_cmp (key_of p) (key_of q)))))
       (at-push points p q n at);
   only = λ n q has.
       ⊎_elim
-      (λ (same : is_eq (pair_cmp (p.at, p.stack) (q.at, q.stack)) ≡ true).
-      let one : p ≡ q = same-key p q (is-equal (pair_cmp (p.at, p.stack) (q.at, q.stack)) same) in
-      let P : Point → Type 0 = λ q. get pair_cmp after (q.at, q.stack) ≡ Some n in
+      (λ (same : is_eq (key_cmp (key_of p) (key_of q)) ≡ true).
+      let one : p ≡ q = same-key p q (is-equal (key_cmp (key_of p) (key_of q)) same) in
+      let P : Point → Type 0 = λ q. get key_cmp after (key_of q) ≡ Some n in
       let here : Some number ≡ Some n = sym updates.1 ∙ subst P (sym one) has in
       let last : length points ≡ n = cc in
       let Q : Point → Type 0 = λ q. slice_get (points ++ p ∷ []) n ≡ Some q in
       let R : ℕ → Type 0 = λ n. slice_get (points ++ p ∷ []) n ≡ Some p in
       subst Q one (subst R last (last-push points p)))
-      (λ (other : is_eq (pair_cmp (p.at, p.stack) (q.at, q.stack)) ≡ false).
-      prefix-push points p q n (are.only n q (sym (updates.2 (q.at, q.stack) other) ∙ has)))
-      (bool-cases (is_eq (pair_cmp (p.at, p.stack) (q.at, q.stack))));
+      (λ (other : is_eq (key_cmp (key_of p) (key_of q)) ≡ false).
+      prefix-push points p q n (are.only n q (sym (updates.2 (key_of q) other) ∙ has)))
+      (bool-cases (is_eq (key_cmp (key_of p) (key_of q))));
 }
 
 -- no point has two numbers

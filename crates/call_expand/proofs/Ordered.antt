@@ -10,10 +10,10 @@ use Rattle.std.specs.Cmp.{IsTotalOrder, IsStrictWeakOrder}
 use Rattle.std.specs.Ordering.{nat_cmp, is_lt, ordering_then}
 use Rattle.std.specs.declared.cmp.Ordering.{Ordering}
 use Rattle.std.specs.declared.cmp.Ordering.TheVariants.{Less, Equal, Greater}
-use Rattle.std.proofs.lemmas.Cmp.{on_total, nat_list_cmp_total, ranked, by_ranked}
+use Rattle.std.proofs.lemmas.Cmp.{on_total, ranked, by_ranked}
 use Rattle.std.proofs.lemmas.List.Sorted.{ranks_by}
 use Rattle.flow_spec.specs.Configuration.{Configuration}
-use Rattle.flow_spec.specs.Order.{numbers_of}
+use Rattle.flow_spec.proofs.Ordered.{configurations_total}
 use Rattle.frame_stacks.specs.declared.stacks.StackCell.{StackCell}
 use Rattle.frame_stacks.specs.Stacks.{AreCells, frames_of}
 use Rattle.call_expand.specs.declared.point.Point.{Point}
@@ -21,10 +21,10 @@ use Rattle.call_expand.specs.Point.{configuration_at, point_cmp}
 
 -- the order of points is total, and a sort may go by it
 pub point_total : (cells : List StackCell) → IsTotalOrder (point_cmp cells)
-point_total cells = on_total (λ (point : Point). numbers_of (configuration_at cells point)) nat_list_cmp_total
+point_total cells = on_total (configuration_at cells) configurations_total
 
 pub point_ranks : (cells : List StackCell) → IsStrictWeakOrder (λ (a b : Point). is_lt (point_cmp cells a b))
-point_ranks cells = ranks_by nat_list_cmp_total (λ (point : Point). numbers_of (configuration_at cells point))
+point_ranks cells = ranks_by configurations_total (configuration_at cells)
 
 -- two orders that are equal one after the other
 pub then_equal : (o p : Ordering) → ordering_then o p ≡ Equal → (o ≡ Equal) × (p ≡ Equal)
@@ -38,13 +38,16 @@ nat_equal x y o is equal =
     by_ranked (x < y) (x ≡ y) (y < x) o (ranked x y o is)
     (λ (less : o ≡ Less) below. absurd (cc)) (λ (_ : o ≡ Equal) same. same) (λ (more : o ≡ Greater) above. absurd (cc))
 
--- a point by its parts
-abbrev pub point : ℕ → ℕ → Point
-point at stack = record { at = at; stack = stack }
+-- a point by its fields, and one at the first part of its instruction
+abbrev pub point_of : ℕ → ℕ → ℕ → Point
+point_of at part stack = record { at = at; part = part; stack = stack }
 
--- points with the same parts are the same
-pub point-parts : (p q s t : ℕ) → p ≡ q → s ≡ t → point p s ≡ point q t
-point-parts p q s t at stack = cc
+abbrev pub point : ℕ → ℕ → Point
+point at stack = point_of at 0 stack
+
+-- points with the same fields are the same
+pub point-fields : (p q m n s t : ℕ) → p ≡ q → m ≡ n → s ≡ t → point_of p m s ≡ point_of q n t
+point-fields p q m n s t at part stack = cc
 
 -- points of one configuration are the same
 pub same_point : (cells : List StackCell) (a b : Point) → AreCells cells → a.stack ≤ length cells
@@ -53,7 +56,9 @@ pub same_point : (cells : List StackCell) (a b : Point) → AreCells cells → a
 same_point cells a b are first second same =
     let frames : frames_of cells a.stack ≡ frames_of cells b.stack = ap (λ (c : Configuration). c.frames) same in
     let at : a.at ≡ b.at = ap (λ (c : Configuration). c.at) same in
-    point-parts a.at b.at a.stack b.stack at (are.alone a.stack b.stack first second frames)
+    let part : a.part ≡ b.part = ap (λ (c : Configuration). c.part) same in
+    point-fields a.at b.at a.part b.part a.stack b.stack at part
+    (are.alone a.stack b.stack first second frames)
 
 -- a sort whose calls answer by the order leaves points in that order
 pub sorted-by : (cells : List StackCell) {F : Type 0} {g : Mut F (Bor Point × (Bor Point × Unit {0})) Ordering}

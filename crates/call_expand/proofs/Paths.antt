@@ -7,7 +7,7 @@ use Rattle.std.proofs.lemmas.Option.{slice_get_within, get_or_from_slice_get}
 use Rattle.list_lemmas.proofs.Members.{found-inside, has-map, from-map}
 use Rattle.transition_spec.specs.Path.{IsPath, IsSuccessor, IsLetter, HasChoices}
 use Rattle.flow_spec.specs.Acceptance.{Step}
-use Rattle.flow_spec.specs.Configuration.{Configuration, start_of}
+use Rattle.flow_spec.specs.Configuration.{Configuration, start_of, fetched}
 use Rattle.flow_spec.specs.Successors.{Successors}
 use Rattle.flow_spec.specs.declared.fault.FlowFault.{FlowFault}
 use Rattle.path_model.specs.declared.graph.Node.{Node}
@@ -101,12 +101,12 @@ module _ (step : Step) (entry : ℕ) (configurations : List Configuration) (node
   path_from (d ∷ c ∷ earlier) path = path_more d c earlier path.0 (path_from (c ∷ earlier) path.1)
 
   -- a node fetches the address of its configuration
-  pub address_at : (n : ℕ) → n < length nodes → address_of nodes n ≡ (numbered configurations n).at
+  pub address_at : (n : ℕ) → n < length nodes → address_of nodes n ≡ fetched (numbered configurations n)
   address_at n below = let node = found-inside nodes n below in ap address node.1 ∙ (node_at n node.0 node.1).at
 
   -- the addresses of the members are those of their configurations
   pub path_addresses : (members : List ℕ) → IsPath (graph_step nodes) 0 members
-      → map (address_of nodes) members ≡ map (λ (c : Configuration). c.at) (map (numbered configurations) members)
+      → map (address_of nodes) members ≡ map fetched (map (numbered configurations) members)
   path_addresses [] path = refl
   path_addresses (n ∷ []) path = ap (λ a. a ∷ []) (address_at n (member_inside n [] path))
   path_addresses (m ∷ n ∷ earlier) path =

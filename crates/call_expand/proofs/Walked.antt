@@ -6,13 +6,12 @@ use Rattle.std.proofs.lemmas.Bool.{cases_lt}
 use Rattle.std.proofs.lemmas.List.{length_push, get_or_append_left, get_or-append_right, get_or_default}
 use Rattle.std.proofs.lemmas.List.Concat.{flat_map-append}
 use Rattle.std.proofs.lemmas.List.Elements.{Contains-get_or, Contains-append_right}
-use Rattle.elf_spec.specs.Image.{Image}
+use Rattle.flow_spec.specs.Program.{Program}
 use Rattle.transition_spec.specs.Path.{IsSuccessor}
 use Rattle.transition_spec.specs.Layer.{all_of}
-use Rattle.flow_spec.specs.Transfer.{is_good_target}
 use Rattle.flow_spec.specs.Configuration.{Configuration, start_of}
 use Rattle.flow_spec.specs.Order.{configuration_cmp}
-use Rattle.flow_spec.specs.Acceptance.{Step, AreLayers, IsFaultless, IsAccepted, HasFaulty, HasTooMany, fetch_limit}
+use Rattle.flow_spec.specs.Acceptance.{Step, is_good_entry, AreLayers, IsFaultless, IsAccepted, HasFaulty, HasTooMany, fetch_limit}
 use Rattle.flow_spec.specs.declared.fault.FlowFault.{FlowFault}
 use Rattle.flow_spec.specs.declared.fault.FlowFault.TheVariants.{TooManyFetches}
 use Rattle.call_expand.specs.Expansion.{numbered}
@@ -39,27 +38,27 @@ prefix-number : (prefix back : List Configuration) (c : Configuration) → Conta
 prefix-number prefix back c has =
     (has.0, has.1, numbered-prefix prefix back has.0 has.1 ∙ (get_or_default prefix has.0 (start_of 0) c has.1 ∙ has.2))
 
-module _ (step : Step) (image : Image) (entry : ℕ) where
+module _ (step : Step) (program : Program) where
   -- the entry alone
-  pub walked_begin : IsTrue (is_good_target image entry) → IsWalked step image entry [] (start_of entry ∷ [])
+  pub walked_begin : IsTrue (is_good_entry program) → IsWalked step program [] (start_of program.entry ∷ [])
   walked_begin good = record {
     earlier = [];
     all = refl;
     entry_is_good = good;
-    are_layers = (first_layer step (start_of entry) configuration_cmp, tt);
+    are_layers = (first_layer step (start_of program.entry) configuration_cmp, tt);
     faultless = tt;
-    searched = begun step (start_of entry) configuration_cmp;
+    searched = begun step (start_of program.entry) configuration_cmp;
     some = omega arith;
     follow_smaller = λ m one below. absurd (omega arith);
     begins = refl;
     few = omega arith;
   }
 
-  module _ (before last : List Configuration) (walked : IsWalked step image entry before last) where
+  module _ (before last : List Configuration) (walked : IsWalked step program before last) where
     -- where the last layer is empty, the program is accepted
-    pub accepted : last ≡ [] → IsAccepted step image entry walked.earlier
+    pub accepted : last ≡ [] → IsAccepted step program walked.earlier
     accepted empty =
-        let Layers : List Configuration → Type 0 = λ last. AreLayers step entry (walked.earlier ++ last ∷ []) in
+        let Layers : List Configuration → Type 0 = λ last. AreLayers step program.entry (walked.earlier ++ last ∷ []) in
         let Faultless : List Configuration → Type 0 = λ cs. AllByRecursion (IsFaultless step) cs in
         record {
           entry_is_good = walked.entry_is_good;
@@ -69,9 +68,9 @@ module _ (step : Step) (image : Image) (entry : ℕ) where
         }
 
     -- the first faulty configuration of the last layer
-    pub faulty : (fault : FlowFault) → FailsAt step last fault → HasFaulty step image entry fault
+    pub faulty : (fault : FlowFault) → FailsAt step last fault → HasFaulty step program fault
     faulty fault fails =
-        let Layers : List Configuration → Type 0 = λ last. AreLayers step entry (walked.earlier ++ last ∷ []) in
+        let Layers : List Configuration → Type 0 = λ last. AreLayers step program.entry (walked.earlier ++ last ∷ []) in
         let Faultless : List Configuration → Type 0 = λ cs. AllByRecursion (IsFaultless step) cs in (
           walked.earlier,
           fails.before,
@@ -105,13 +104,13 @@ module _ (step : Step) (image : Image) (entry : ℕ) where
     module _ (next : List Configuration) (faultless : AllByRecursion (IsFaultless step) last)
         (is : AreNext step configuration_cmp before last next) where
       -- the layers with the next one
-      more_layers : AreLayers step entry ((walked.earlier ++ last ∷ []) ++ next ∷ [])
+      more_layers : AreLayers step program.entry ((walked.earlier ++ last ∷ []) ++ next ∷ [])
       more_layers =
-          layers_more step (start_of entry) configuration_cmp 0 (length walked.earlier + 1)
+          layers_more step (start_of program.entry) configuration_cmp 0 (length walked.earlier + 1)
           (walked.earlier ++ last ∷ []) next
           (omega (arith, length_push walked.earlier last)) walked.are_layers
-          (next_layer step (start_of entry) configuration_cmp (length walked.earlier) before last next walked.searched
-          is)
+          (next_layer step (start_of program.entry) configuration_cmp (length walked.earlier) before last next
+          walked.searched is)
 
       -- no configuration before the next layer has a fault
       all_faultless : AllByRecursion (IsFaultless step) (before ++ last)
@@ -119,7 +118,7 @@ module _ (step : Step) (image : Image) (entry : ℕ) where
 
       -- with the next layer the limit is passed
       pub too_many : fetch_limit < length ((before ++ last) ++ next)
-          → HasTooMany step image entry (TooManyFetches fetch_limit)
+          → HasTooMany step program (TooManyFetches fetch_limit)
       too_many many =
           let Faultless : List Configuration → Type 0 = λ cs. AllByRecursion (IsFaultless step) cs in (
             walked.earlier ++ last ∷ [],
@@ -176,7 +175,7 @@ module _ (step : Step) (image : Image) (entry : ℕ) where
 
       -- else the search goes on with it
       pub walked_more : length ((before ++ last) ++ next) ≤ fetch_limit
-          → IsWalked step image entry (before ++ last) next
+          → IsWalked step program (before ++ last) next
       walked_more few = record {
         earlier = walked.earlier ++ last ∷ [];
         all = all_more;
@@ -184,9 +183,9 @@ module _ (step : Step) (image : Image) (entry : ℕ) where
         are_layers = more_layers;
         faultless = all_faultless;
         searched =
-            let P : ℕ → Type 0 = λ n. IsSearched step (start_of entry) n (before ++ last) next in
+            let P : ℕ → Type 0 = λ n. IsSearched step (start_of program.entry) n (before ++ last) next in
             subst P (sym (length_push walked.earlier last))
-            (searched_more step (start_of entry) configuration_cmp (length walked.earlier) before last next
+            (searched_more step (start_of program.entry) configuration_cmp (length walked.earlier) before last next
             walked.searched is);
         some = omega (arith, walked.some, length-append (before ++ last) next);
         follow_smaller = follow_more;

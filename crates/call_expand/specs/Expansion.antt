@@ -3,7 +3,7 @@ use Rattle.std.specs.Prelude.{◌≡◌, ℕ, ◌<◌, List, ◌++◌, length, m
 use Rattle.std.specs.List.{AllZip}
 use Rattle.std.specs.Option.{option_to_list}
 use Rattle.flow_spec.specs.Acceptance.{Step}
-use Rattle.flow_spec.specs.Configuration.{Configuration, start_of}
+use Rattle.flow_spec.specs.Configuration.{Configuration, start_of, fetched}
 use Rattle.path_model.specs.declared.graph.Node.{Node}
 use Rattle.path_model.specs.Graph.{IsGraph}
 use Rattle.frame_stacks.specs.declared.stacks.StackCell.{StackCell}
@@ -19,9 +19,9 @@ pub record Expansion : Type 0 where
 abbrev pub numbered : List Configuration → ℕ → Configuration
 numbered configurations n = slice_index_or configurations n (start_of 0)
 
--- a node has its configuration's address, and the numbers of that one's successors in their order
+-- a node has the address that its configuration fetches, and the numbers of that one's successors in their order
 pub record IsNodeOf (step : Step) (configurations : List Configuration) (c : Configuration) (node : Node) : Type 0 where
-  pub at : node.at ≡ c.at
+  pub at : node.at ≡ fetched c
   pub goes : step c ≡ Ok (map (numbered configurations) (option_to_list node.first ++ option_to_list node.second))
 
 -- the nodes are the graph of these configurations, of which no two are equal and the first is the start

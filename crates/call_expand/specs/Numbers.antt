@@ -7,19 +7,25 @@ use Rattle.std.specs.declared.cmp.Ordering.{Ordering}
 use Rattle.std.specs.BTreeMap.{BTreeMap, get}
 use Rattle.path_model.specs.declared.graph.Node.{Node}
 use Rattle.frame_stacks.specs.declared.stacks.StackCell.{StackCell}
-use Rattle.call_expand.specs.Point.{point_cmp, points_of}
+use Rattle.call_expand.specs.Point.{fetched_by, point_cmp, points_of}
 use Rattle.call_expand.specs.declared.point.Point.{Point}
 use Rattle.call_expand.specs.declared.point.Edges.{Edges}
 
--- the order of the pairs of numbers that a map has as keys
-abbrev pub pair_cmp : ℕ × ℕ → ℕ × ℕ → Ordering
-pair_cmp a b = ordering_then (nat_cmp a.0 b.0) (nat_cmp a.1 b.1)
+-- the key of a point in a map, and the order of keys
+abbrev pub Key : Type 0
+Key = ℕ × ℕ × ℕ
+
+abbrev pub key_of : Point → Key
+key_of point = (point.at, point.part, point.stack)
+
+abbrev pub key_cmp : Key → Key → Ordering
+key_cmp a b = ordering_then (ordering_then (nat_cmp a.0 b.0) (nat_cmp a.1 b.1)) (nat_cmp a.2 b.2)
 
 -- the map has the index of each of these points as its number, and no other number
-pub record AreNumbers (points : List Point) (numbers : BTreeMap (ℕ × ℕ) ℕ) : Type 0 where
+pub record AreNumbers (points : List Point) (numbers : BTreeMap Key ℕ) : Type 0 where
   pub found : (n : ℕ) (point : Point) → slice_get points n ≡ Some point
-      → get pair_cmp numbers (point.at, point.stack) ≡ Some n
-  pub only : (n : ℕ) (point : Point) → get pair_cmp numbers (point.at, point.stack) ≡ Some n
+      → get key_cmp numbers (key_of point) ≡ Some n
+  pub only : (n : ℕ) (point : Point) → get key_cmp numbers (key_of point) ≡ Some n
       → slice_get points n ≡ Some point
 
 -- no point is listed twice
@@ -47,7 +53,7 @@ HasNumber points (Some point) (Some n) = slice_get points n ≡ Some point
 
 -- the node of a point with these edges
 pub record IsNodeFor (points : List Point) (point : Point) (edges : Edges) (node : Node) : Type 0 where
-  pub at : node.at ≡ point.at
+  pub at : node.at ≡ fetched_by point
   pub first : HasNumber points edges.first node.first
   pub second : HasNumber points edges.second node.second
 

@@ -3,11 +3,10 @@ use Rattle.std.specs.Prelude.{◌≡◌, ℕ, ◌<◌, ◌≤◌, List, [], ◌�
 use Rattle.std.specs.List.{AllByRecursion, AllZip}
 use Rattle.std.specs.List.Sorted.{IsStrictlySortedBy}
 use Rattle.std.specs.declared.cmp.Ordering.{Ordering}
-use Rattle.elf_spec.specs.Image.{Image}
 use Rattle.transition_spec.specs.Path.{IsSuccessor}
 use Rattle.transition_spec.specs.Layer.{IsReachedIn, all_of}
-use Rattle.flow_spec.specs.Transfer.{is_good_target}
-use Rattle.flow_spec.specs.Acceptance.{Step, AreLayers, IsFaultless, fetch_limit}
+use Rattle.flow_spec.specs.Program.{Program}
+use Rattle.flow_spec.specs.Acceptance.{Step, AreLayers, IsFaultless, fetch_limit, is_good_entry}
 use Rattle.flow_spec.specs.Successors.{successors}
 use Rattle.flow_spec.specs.Configuration.{Configuration, start_of}
 use Rattle.frame_stacks.specs.declared.stacks.StackCell.{StackCell}
@@ -40,30 +39,30 @@ FollowSmaller step configurations = (m : ℕ) → 1 ≤ m → m < length configu
     → (n : ℕ) × (n < m) × IsSuccessor step (numbered configurations n) (numbered configurations m)
 
 -- the layers up to the last one, which isn't followed yet; no configuration before it has a fault
-pub record IsWalked (step : Step) (image : Image) (entry : ℕ) (before last : List Configuration) : Type 0 where
+pub record IsWalked (step : Step) (program : Program) (before last : List Configuration) : Type 0 where
   pub earlier : List (List Configuration)
   pub all : all_of earlier ≡ before
-  pub entry_is_good : IsTrue (is_good_target image entry)
-  pub are_layers : AreLayers step entry (earlier ++ last ∷ [])
+  pub entry_is_good : IsTrue (is_good_entry program)
+  pub are_layers : AreLayers step program.entry (earlier ++ last ∷ [])
   pub faultless : AllByRecursion (IsFaultless step) before
-  pub searched : IsSearched step (start_of entry) (length earlier) before last
+  pub searched : IsSearched step (start_of program.entry) (length earlier) before last
   pub some : 1 ≤ length (before ++ last)
   pub follow_smaller : FollowSmaller step (before ++ last)
-  pub begins : numbered (before ++ last) 0 ≡ start_of entry
+  pub begins : numbered (before ++ last) 0 ≡ start_of program.entry
   pub few : length (before ++ last) ≤ fetch_limit
 
 -- the search is at the layer that begins with this number
-pub record IsAt (image : Image) (entry : ℕ) (cells : List StackCell) (points : List Point) (edges : List Edges)
+pub record IsAt (program : Program) (cells : List StackCell) (points : List Point) (edges : List Edges)
     (start : ℕ) : Type 0 where
   pub are_cells : AreCells cells
-  pub are_points : ArePoints image cells points
+  pub are_points : ArePoints program cells points
   pub within : start ≤ length points
-  pub each : AllZip (IsEdge (successors image entry) image cells) (take start points) edges
+  pub each : AllZip (IsEdge (successors program) program cells) (take start points) edges
   pub room : length cells ≤ start
-  pub walked : IsWalked (successors image entry) image entry (configurations_at cells (take start points))
+  pub walked : IsWalked (successors program) program (configurations_at cells (take start points))
       (configurations_at cells (drop start points))
 
 -- the search has its cells, points and edges at the layer that begins with this number
-abbrev pub IsSearchAt : Image → ℕ → Search → ℕ → Type 0
-IsSearchAt image entry search start =
-    IsAt image entry search.stacks search.known search.edges.items start
+abbrev pub IsSearchAt : Program → Search → ℕ → Type 0
+IsSearchAt program search start =
+    IsAt program search.stacks search.known search.edges.items start

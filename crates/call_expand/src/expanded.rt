@@ -1,6 +1,7 @@
-ghost use Rattle.std.specs.Prelude.{◌≡◌, ◌<◌, ◌≤◌, length, slice_get};
+ghost use Rattle.std.specs.Prelude.{◌≡◌, ℕ, ◌<◌, ◌≤◌, length, slice_get};
+ghost use Rattle.flow_spec.specs.Configuration.{fetched};
 ghost use Rattle.flow_spec.specs.Successors.{newest};
-ghost use Rattle.path_model.specs.Graph.{IsGraph};
+ghost use Rattle.path_model.specs.Graph.{IsGraph, address_of};
 ghost use Rattle.frame_stacks.specs.Stacks.{AreCells, frames_of};
 ghost use Rattle.call_expand.specs.Expansion.{numbered};
 ghost use Rattle.call_expand.specs.Point.{configurations_at, AreExpanded};
@@ -11,11 +12,13 @@ use frame_stacks::{StackCell, Stacks};
 use path_model::Graph;
 use std::marker::Model;
 
-/// The configuration of a node: the address that it fetches, the number of its stack of open calls, and how many of them
-/// are open. Two configurations have one stack exactly where the same calls are open in both.
+/// The configuration of a node: the address of its instruction, the part of that instruction that it fetches, 0 or 1,
+/// the number of its stack of open calls, and how many of them are open. Two configurations have one stack exactly
+/// where the same calls are open in both.
 #[derive(Clone, Copy, Debug, PartialEq, Eq)]
 pub struct Config {
     pub at: u32,
+    pub part: u8,
     pub stack: u32,
     pub depth: u32,
 }
@@ -58,11 +61,14 @@ impl Expanded {
         }
     }
 
-    /// The graph. Its nodes have the numbers of the configurations, and node 0 is the entry.
+    /// The graph. Its nodes have the numbers of the configurations and the addresses that they fetch, and node 0 is the
+    /// entry.
     pub fn graph(&self) -> &Graph
         ensures same { result.now ≡ self.now.nodes }
         ensures graph { IsGraph self.now.nodes }
         ensures one_each { length self.now.configurations ≡ length self.now.nodes }
+        ensures fetches { (n : ℕ) → n < length self.now.nodes
+            → address_of self.now.nodes n ≡ fetched (numbered self.now.configurations n) }
     {
         &self.graph
     }
@@ -71,6 +77,7 @@ impl Expanded {
     pub fn config(&self, node: u32) -> Config
         requires { node < length self.now.nodes }
         ensures at { result.at ≡ (numbered self.now.configurations node).at }
+        ensures part { result.part ≡ (numbered self.now.configurations node).part }
         ensures frames { frames_of self.now.cells result.stack ≡ (numbered self.now.configurations node).frames }
         ensures depth { result.depth ≡ length (numbered self.now.configurations node).frames }
         ensures stack { slice_get self.now.stacks node ≡ Some result.stack }
@@ -79,13 +86,14 @@ impl Expanded {
         let point = self.points[node as usize];
         Config {
             at: point.at,
+            part: point.part,
             stack: point.stack,
             depth: self.stacks.depth(point.stack),
         }
     }
 
-    /// The newest open call of a node's configuration. `None` exactly where none is open. The node's number is below the
-    /// number of nodes.
+    /// The newest open call of a node's configuration. `None` exactly where none is open. The node's number is below
+    /// the number of nodes.
     pub fn top(&self, node: u32) -> Option<Frame>
         requires { node < length self.now.nodes }
         ensures { result ≡ newest (numbered self.now.configurations node).frames }

@@ -4,29 +4,33 @@ ghost use Rattle.frame_stacks.specs.Stacks.{frames_of};
 ghost use Rattle.call_expand.specs.Point.{configuration_at, configurations_at, ArePoints, IsPoint, GoesOn, IsEdge, FailsAt, Opens, AreAllFollowed};
 
 use crate::point::{Edges, Point};
-use elf_image::Image;
-use flow_graph::next_of;
+use crate::program::Program;
 use flow_spec::{FlowFault, Frame, Next};
 use frame_stacks::Stacks;
 use std::alloc::AllocError;
 
 // Where control goes from a point, or the fault of its configuration.
-fn edges_of(
-    image: &Image,
-    entry: u32,
-    stacks: &mut Stacks,
-    point: Point,
-) -> Result<Edges, FlowFault>
-    requires point { IsPoint image.now stacks.old point }
+fn edges_of(program: &Program, stacks: &mut Stacks, point: Point) -> Result<Edges, FlowFault>
+    requires point { IsPoint program.now stacks.old point }
     requires room { length stacks.old < 2 ^ 32 - 1 }
     ensures edge { IfOk result (λ edges.
-        IsEdge (successors image.now entry) image.now stacks.new point edges) }
+        IsEdge (successors program.now) program.now stacks.new point edges) }
     ensures goes_on { OnOk result (GoesOn stacks.old stacks.new) }
     ensures one { OnOk result (length stacks.new ≤ length stacks.old + 1) }
     ensures fault { IfErr result (λ fault. (fault ≡ FlowFault.OutOfMemory)
-        ⊎ (successors image.now entry (configuration_at stacks.old point) ≡ Err fault)) }
+        ⊎ (successors program.now (configuration_at stacks.old point) ≡ Err fault)) }
 {
-    match next_of(image, point.at, stacks.top(point.stack))? {
+    // What the instruction does counts after its last part.
+    if u32::from(point.part) + 1 < program.parts(point.at) {
+        return Ok(Edges {
+            first: Some(Point {
+                part: point.part + 1,
+                ..point
+            }),
+            second: None,
+        });
+    }
+    match program.next_of(point.at, stacks.top(point.stack))? {
         Next::Ends => Ok(Edges {
             first: None,
             second: None,
@@ -35,23 +39,26 @@ fn edges_of(
         Next::Fork(next, target) => Ok(Edges {
             first: Some(Point {
                 at: next,
+                part: 0,
                 stack: point.stack,
             }),
             second: Some(Point {
                 at: target,
+                part: 0,
                 stack: point.stack,
             }),
         }),
-        Next::Enter { target, frame } => enter(entry, stacks, point, target, frame),
+        Next::Enter { target, frame } => enter(program.entry(), stacks, point, target, frame),
         Next::Back(target) => Ok(one(target, stacks.below(point.stack))),
     }
 }
 
+// Control comes to one instruction, at its first part.
 fn one(at: u32, stack: u32) -> Edges
-    ensures { result ≡ record { first = Some (record { at = at; stack = stack }); second = None } }
+    ensures { result ≡ record { first = Some (record { at = at; part = 0; stack = stack }); second = None } }
 {
     Edges {
-        first: Some(Point { at, stack }),
+        first: Some(Point { at, part: 0, stack }),
         second: None,
     }
 }
@@ -79,21 +86,20 @@ fn enter(
 
 // Follows each point, and adds its edges after the others.
 fn follow_all(
-    image: &Image,
-    entry: u32,
+    program: &Program,
     stacks: &mut Stacks,
     points: &[Point],
     edges: &mut Vec<Edges>,
 ) -> Result<(), FlowFault>
-    requires points { ArePoints image.now stacks.old points.now }
+    requires points { ArePoints program.now stacks.old points.now }
     requires room { length stacks.old + length points.now < 2 ^ 32 - 1 }
-    ensures followed { OnOk result (AreAllFollowed (successors image.now entry) image.now stacks.old stacks.new points.now
+    ensures followed { OnOk result (AreAllFollowed (successors program.now) program.now stacks.old stacks.new points.now
         edges.old.items edges.new.items) }
     ensures fault { IfErr result (λ fault. (fault ≡ FlowFault.OutOfMemory)
-        ⊎ FailsAt (successors image.now entry) (configurations_at stacks.old points.now) fault) }
+        ⊎ FailsAt (successors program.now) (configurations_at stacks.old points.now) fault) }
 {
     for point in points {
-        let next = edges_of(image, entry, stacks, *point)?;
+        let next = edges_of(program, stacks, *point)?;
         push(edges, next)?;
     }
     Ok(())
@@ -101,22 +107,21 @@ fn follow_all(
 
 // Follows the points from index `start` on.
 pub(crate) fn follow_from(
-    image: &Image,
-    entry: u32,
+    program: &Program,
     stacks: &mut Stacks,
     points: &[Point],
     start: usize,
     edges: &mut Vec<Edges>,
 ) -> Result<(), FlowFault>
     requires within { start ≤ length points.now }
-    requires points { ArePoints image.now stacks.old (drop start points.now) }
+    requires points { ArePoints program.now stacks.old (drop start points.now) }
     requires room { length stacks.old + length points.now < 2 ^ 32 - 1 }
-    ensures followed { OnOk result (AreAllFollowed (successors image.now entry) image.now stacks.old stacks.new
+    ensures followed { OnOk result (AreAllFollowed (successors program.now) program.now stacks.old stacks.new
         (drop start points.now) edges.old.items edges.new.items) }
     ensures fault { IfErr result (λ fault. (fault ≡ FlowFault.OutOfMemory)
-        ⊎ FailsAt (successors image.now entry) (configurations_at stacks.old (drop start points.now)) fault) }
+        ⊎ FailsAt (successors program.now) (configurations_at stacks.old (drop start points.now)) fault) }
 {
-    follow_all(image, entry, stacks, &points[start..], edges)
+    follow_all(program, stacks, &points[start..], edges)
 }
 
 fn push(edges: &mut Vec<Edges>, next: Edges) -> Result<(), AllocError>

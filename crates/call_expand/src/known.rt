@@ -11,7 +11,7 @@ use std::marker::Model;
 #[derive(Drop)]
 pub(crate) struct Known {
     points: Vec<Point>,
-    numbers: BTreeMap<(u32, u32), u32>,
+    numbers: BTreeMap<(u32, u8, u32), u32>,
 }
 
 impl Model for Known {
@@ -54,7 +54,9 @@ impl Known {
         ensures { MatchOption result (Contains self.now point → ⊥)
             (λ number. slice_get self.now number ≡ Some point) }
     {
-        self.numbers.get(&(point.at, point.stack)).copied()
+        self.numbers
+            .get(&(point.at, point.part, point.stack))
+            .copied()
     }
 
     // Gives a point the next number.
@@ -66,7 +68,8 @@ impl Known {
         let number = self.points.len() as u32;
         // Takes the room first, so that the map numbers listed points alone, even where memory runs out.
         self.points.reserve(1)?;
-        self.numbers.insert((point.at, point.stack), number)?;
+        self.numbers
+            .insert((point.at, point.part, point.stack), number)?;
         self.points.push_reserved(point);
         Ok(())
     }

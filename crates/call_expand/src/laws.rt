@@ -1,7 +1,7 @@
 ghost use Rattle.std.specs.Prelude.{◌≡◌, ◌↔◌, ℕ, List, map};
 ghost use Rattle.transition_spec.specs.Path.{IsPath, HasChoices};
 ghost use Rattle.flow_spec.specs.Acceptance.{Step};
-ghost use Rattle.flow_spec.specs.Configuration.{Configuration, start_of};
+ghost use Rattle.flow_spec.specs.Configuration.{Configuration, start_of, fetched};
 ghost use Rattle.path_model.specs.declared.graph.Node.{Node};
 ghost use Rattle.path_model.specs.Graph.{graph_step, address_of};
 ghost use Rattle.call_expand.specs.Expansion.{numbered, IsGraphOf};
@@ -21,5 +21,5 @@ pub fn path_laws()
         → HasChoices (graph_step nodes) members choices ↔ HasChoices step (map (numbered configurations) members) choices }
     ensures addresses { (step : Step) (entry : ℕ) (configurations : List Configuration) (nodes : List Node) (members : List ℕ)
         → IsGraphOf step entry configurations nodes → IsPath (graph_step nodes) 0 members
-        → map (address_of nodes) members ≡ map (λ c. c.at) (map (numbered configurations) members) }
+        → map (address_of nodes) members ≡ map fetched (map (numbered configurations) members) }
 {}

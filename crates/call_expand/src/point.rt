@@ -1,7 +1,9 @@
-/// Where control is: an address of the text, and the number of the stack of open calls.
+/// Where control is: an address of the text, the part of the instruction there, and the number of the stack of open
+/// calls.
 #[derive(Clone, Copy, Debug, PartialEq, Eq)]
 pub(crate) struct Point {
     pub(crate) at: u32,
+    pub(crate) part: u8,
     pub(crate) stack: u32,
 }
 

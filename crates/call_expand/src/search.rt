@@ -2,15 +2,16 @@ ghost use Rattle.std.specs.Prelude.{◌≡◌, true, ◌⊎◌, ◌+◌, ◌*◌
 ghost use Rattle.std.specs.Option.{option_to_list};
 ghost use Rattle.std.specs.List.{AllByRecursion};
 ghost use Rattle.std.specs.List.Sorted.{IsPermutation, IsSorted};
-ghost use Rattle.elf_spec.specs.Word.{IsText};
 ghost use Rattle.transition_spec.specs.Layer.{all_of};
 ghost use Rattle.flow_spec.specs.Configuration.{Configuration};
+ghost use Rattle.flow_spec.specs.Instruction.{IsText};
+ghost use Rattle.flow_spec.specs.Program.{program};
 ghost use Rattle.flow_spec.specs.Successors.{successors};
 ghost use Rattle.flow_spec.specs.Transfer.{is_good_target};
-ghost use Rattle.flow_spec.specs.Acceptance.{IsAccepted, IsRefused};
+ghost use Rattle.flow_spec.specs.Acceptance.{IsAccepted, IsRefused, is_good_entry};
 ghost use Rattle.frame_stacks.specs.Stacks.{AreCells, frames_of};
 ghost use Rattle.call_expand.specs.Expansion.{IsGraphOf};
-ghost use Rattle.call_expand.specs.Point.{point_cmp, points_of};
+ghost use Rattle.call_expand.specs.Point.{fetched_by, point_cmp, points_of};
 ghost use Rattle.call_expand.specs.Numbers.{AreNodesFor, IsNodeFor, HasNumber, AreAmong, AreNumbered};
 ghost use Rattle.call_expand.specs.Search.{IsSearchAt};
 
@@ -18,9 +19,9 @@ use crate::Expanded;
 use crate::follow::follow_from;
 use crate::known::Known;
 use crate::point::{Edges, Point};
+use crate::program::Program;
 use elf_image::Image;
-use flow_graph::is_target;
-use flow_spec::FlowFault;
+use flow_spec::{FlowFault, Isa};
 use frame_stacks::Stacks;
 use path_model::{Graph, Node};
 use std::alloc::{AllocError, Global};
@@ -37,42 +38,58 @@ struct Search {
     edges: Vec<Edges>,
 }
 
-/// All configurations of the program that begins at the entry, and their graph.
+/// All configurations of the program that begins at the entry, and their graph. Its instructions are those of `isa`,
+/// and are fetched from cache lines of `line` bytes.
 ///
-/// The configurations are numbered by layer, then address, then frames. The errors are those of a refused program: first
-/// `BadEntry`; then, layer by layer, the fault of the first faulty configuration of the layer, else `TooManyFetches`
-/// where this layer, those before it and the next have more than 65,536 configurations together. Besides these, `OutOfMemory`.
-pub fn expand(alloc: Global, image: &Image, entry: u32) -> Result<Expanded, FlowFault>
+/// The configurations are numbered by layer, then address, then frames, then part. The errors are those of a refused
+/// program: first `BadEntry`; then, layer by layer, the fault of the first faulty configuration of the layer, else
+/// `TooManyFetches` where this layer, those before it and the next have more than 65,536 configurations together.
+/// Besides these, `OutOfMemory`.
+pub fn expand(
+    alloc: Global,
+    image: &Image,
+    entry: u32,
+    isa: Isa,
+    line: u32,
+) -> Result<Expanded, FlowFault>
+    requires { 0 < line }
     ensures accepted { IfOk result (λ expanded. (layers : List (List Configuration))
-        × IsAccepted (successors image.now entry) image.now entry layers
+        × IsAccepted (successors (program image.now isa line entry)) (program image.now isa line entry) layers
         × (expanded.configurations ≡ all_of layers)) }
     ensures graph { IfOk result (λ expanded.
-        IsGraphOf (successors image.now entry) entry expanded.configurations expanded.nodes) }
-    ensures text { IfOk result (λ expanded. AllByRecursion (λ c. IsText image.now c.at) expanded.configurations) }
-    ensures bad_entry { IsFalse (is_good_target image.now entry) → result ≡ Err (FlowFault.BadEntry entry) }
+        IsGraphOf (successors (program image.now isa line entry)) entry expanded.configurations expanded.nodes) }
+    ensures text { IfOk result (λ expanded. AllByRecursion (λ c. IsText isa image.now c.at) expanded.configurations) }
+    ensures bad_entry { IsFalse (is_good_target isa image.now entry) → result ≡ Err (FlowFault.BadEntry entry) }
     ensures refused { IfErr result (λ fault. (fault ≡ FlowFault.OutOfMemory)
-        ⊎ IsRefused (successors image.now entry) image.now entry fault) }
+        ⊎ IsRefused (successors (program image.now isa line entry)) (program image.now isa line entry) fault) }
 {
-    if !is_target(image, entry) {
+    let program = Program {
+        image,
+        isa,
+        line,
+        entry,
+    };
+    if !program.has_good_entry() {
         return Err(FlowFault::BadEntry { entry });
     }
-    let mut search = begin(alloc, image, entry)?;
+    let mut search = begin(alloc, &program)?;
     let mut start = 0;
     while start < search.known.points().len() {
         let end = search.known.points().len();
-        next_layer(alloc, image, entry, &mut search, start)?;
+        next_layer(alloc, &program, &mut search, start)?;
         start = end;
     }
-    Ok(finish(alloc, image, entry, search)?)
+    Ok(finish(alloc, &program, search)?)
 }
 
-fn begin(alloc: Global, image: &Image, entry: u32) -> Result<Search, AllocError>
-    requires { is_good_target image.now entry ≡ true }
-    ensures { IfOk result (λ search. IsSearchAt image.now entry search 0) }
+fn begin(alloc: Global, program: &Program) -> Result<Search, AllocError>
+    requires { is_good_entry program.now ≡ true }
+    ensures { IfOk result (λ search. IsSearchAt program.now search 0) }
 {
     let mut known = Known::empty(alloc);
     known.add(Point {
-        at: entry,
+        at: program.entry(),
+        part: 0,
         stack: 0,
     })?;
     Ok(Search {
@@ -85,23 +102,22 @@ fn begin(alloc: Global, image: &Image, entry: u32) -> Result<Search, AllocError>
 // Follows the layer that begins with the number `start`, and numbers the next one.
 fn next_layer(
     alloc: Global,
-    image: &Image,
-    entry: u32,
+    program: &Program,
     search: &mut Search,
     start: usize,
 ) -> Result<(), FlowFault>
-    requires at { IsSearchAt image.now entry search.old start }
+    requires at { IsSearchAt program.now search.old start }
     requires some { start < length search.old.known }
-    ensures at { OnOk result (IsSearchAt image.now entry search.new (length search.old.known)) }
+    ensures at { OnOk result (IsSearchAt program.now search.new (length search.old.known)) }
     ensures refused { IfErr result (λ fault. (fault ≡ FlowFault.OutOfMemory)
-        ⊎ IsRefused (successors image.now entry) image.now entry fault) }
+        ⊎ IsRefused (successors program.now) program.now fault) }
 {
     let Search {
         stacks,
         known,
         edges,
     } = search;
-    follow_from(image, entry, stacks, known.points(), start, edges)?;
+    follow_from(program, stacks, known.points(), start, edges)?;
     number_from(alloc, stacks, edges, start, known)?;
     if known.points().len() > LIMIT as usize {
         return Err(FlowFault::TooManyFetches { limit: LIMIT });
@@ -155,7 +171,7 @@ fn push_some(found: &mut Vec<Point>, point: Option<Point>) -> Result<(), AllocEr
     }
 }
 
-// By address, then by frames.
+// By address, then by frames, then by part.
 fn sort(stacks: &Stacks, found: &mut Vec<Point>)
     ensures same { IsPermutation found.old.items found.new.items }
     ensures sorted { IsSorted (point_cmp stacks.now) found.new.items }
@@ -169,10 +185,11 @@ fn sort(stacks: &Stacks, found: &mut Vec<Point>)
 fn compare(stacks: &Stacks, a: Point, b: Point) -> Ordering
     ensures { result ≡ point_cmp stacks.now a b }
 {
-    match a.at.cmp(&b.at) {
+    let by_place = match a.at.cmp(&b.at) {
         Ordering::Equal => stacks.compare(stack_of(stacks, a), stack_of(stacks, b)),
         other => other,
-    }
+    };
+    by_place.then(a.part.cmp(&b.part))
 }
 
 // The point's stack, or the one without frames where there is no such stack.
@@ -187,14 +204,15 @@ fn stack_of(stacks: &Stacks, point: Point) -> u32
     }
 }
 
-fn finish(alloc: Global, image: &Image, entry: u32, search: Search) -> Result<Expanded, AllocError>
-    requires { IsSearchAt image.now entry search (length search.known) }
+fn finish(alloc: Global, program: &Program, search: Search) -> Result<Expanded, AllocError>
+    requires { IsSearchAt program.now search (length search.known) }
     ensures accepted { IfOk result (λ expanded. (layers : List (List Configuration))
-        × IsAccepted (successors image.now entry) image.now entry layers
+        × IsAccepted (successors program.now) program.now layers
         × (expanded.configurations ≡ all_of layers)) }
     ensures graph { IfOk result (λ expanded.
-        IsGraphOf (successors image.now entry) entry expanded.configurations expanded.nodes) }
-    ensures text { IfOk result (λ expanded. AllByRecursion (λ c. IsText image.now c.at) expanded.configurations) }
+        IsGraphOf (successors program.now) program.now.entry expanded.configurations expanded.nodes) }
+    ensures text { IfOk result (λ expanded.
+        AllByRecursion (λ c. IsText program.now.isa program.now.image c.at) expanded.configurations) }
 {
     let Search {
         stacks,
@@ -210,6 +228,7 @@ fn finish(alloc: Global, image: &Image, entry: u32, search: Search) -> Result<Ex
 fn nodes_of(alloc: Global, known: &Known, edges: &[Edges]) -> Result<Vec<Node>, AllocError>
     requires each { length edges.now ≡ length known.now }
     requires among { AreAmong known.now (flat_map points_of edges.now) }
+    requires fit { AllByRecursion (λ point. fetched_by point < 2 ^ 32) known.now }
     ensures { IfOk result (λ nodes. AreNodesFor known.now known.now edges.now nodes.items) }
 {
     let points = known.points();
@@ -222,10 +241,11 @@ fn nodes_of(alloc: Global, known: &Known, edges: &[Edges]) -> Result<Vec<Node>, 
 
 fn node_of(known: &Known, point: Point, edges: Edges) -> Node
     requires among { AreAmong known.now (points_of edges) }
+    requires fits { fetched_by point < 2 ^ 32 }
     ensures { IsNodeFor known.now point edges result }
 {
     Node {
-        at: point.at,
+        at: point.at + 2 * u32::from(point.part),
         first: number_of(known, edges.first),
         second: number_of(known, edges.second),
     }

@@ -1,6 +1,6 @@
 ghost use Rattle.std.specs.Prelude.{◌<◌, ◌≤◌, length};
 
-use crate::{Expanded, FlowFault, Frame, Image, Link, StackCell, expand, path_laws};
+use crate::{Expanded, FlowFault, Frame, Image, Isa, Link, StackCell, expand, path_laws};
 use std::alloc::{AllocError, Global};
 use std::process::Abort;
 use std::test::Fail;
@@ -11,9 +11,9 @@ const PLAIN: u32 = 0x00000013;
 
 const RETURN: u32 = 0x00008067;
 
-// An executable of these words at 0x10000, where it begins.
-fn wrap(alloc: Global, words: &[u32]) -> Result<Vec<u8>, AllocError>
-    requires { length words.now ≤ 65536 }
+// An executable of this text at 0x10000, where it begins.
+fn wrap(alloc: Global, text: &[u8]) -> Result<Vec<u8>, AllocError>
+    requires { length text.now ≤ 262144 }
 {
     let mut file = [
         0x7f, 0x45, 0x4c, 0x46, 1, 1, 1, 0, 0, 0, 0, 0, 0, 0, 0, 0, 2, 0, 0xf3, 0, 1, 0, 0, 0, 0,
@@ -21,21 +21,27 @@ fn wrap(alloc: Global, words: &[u32]) -> Result<Vec<u8>, AllocError>
         1, 0, 0, 0, 0x54, 0, 0, 0, 0, 0, 1, 0, 0, 0, 1, 0,
     ]
     .to_vec(alloc)?;
-    let size = (words.len() as u32 * 4).to_le_bytes();
+    let size = (text.len() as u32).to_le_bytes();
     file.extend_from_slice(&size)?;
     file.extend_from_slice(&size)?;
     file.extend_from_slice(&[5, 0, 0, 0, 4, 0, 0, 0])?;
-    for word in words {
-        file.extend_from_slice(&word.to_le_bytes())?;
-    }
+    file.extend_from_slice(text)?;
     Ok(file)
 }
 
-fn image_of(rt: &(impl Abort + AllocGlobal), words: &[u32]) -> Result<Image, Fail> {
-    assert!(rt; words.len() <= 65_536);
-    let file = wrap(rt.alloc(), words)?;
+fn image_with(rt: &(impl Abort + AllocGlobal), text: &[u8]) -> Result<Image, Fail> {
+    assert!(rt; text.len() <= 262_144);
+    let file = wrap(rt.alloc(), text)?;
     assert!(rt; file.len() <= 16_777_216);
     Ok(elf_image::read(rt.alloc(), file)?)
+}
+
+fn image_of(rt: &(impl Abort + AllocGlobal), words: &[u32]) -> Result<Image, Fail> {
+    let mut text = Vec::new(rt.alloc());
+    for word in words {
+        text.extend_from_slice(&word.to_le_bytes())?;
+    }
+    image_with(rt, &text)
 }
 
 fn expanded(
@@ -43,7 +49,7 @@ fn expanded(
     words: &[u32],
 ) -> Result<Result<Expanded, FlowFault>, Fail> {
     let image = image_of(rt, words)?;
-    Ok(expand(rt.alloc(), &image, image.entry()))
+    Ok(expand(rt.alloc(), &image, image.entry(), Isa::Rv32i, 32))
 }
 
 #[test]
@@ -91,7 +97,10 @@ fn a_refused_program_has_its_one_fault(rt: HostRuntime) -> Result<(), Fail> {
 fn an_entry_outside_the_text_is_bad(rt: HostRuntime) -> Result<(), Fail> {
     let image = image_of(&rt, &[PLAIN, STOP])?;
     let entry = 0x10008;
-    assert!(rt; expand(rt.alloc(), &image, entry).err() == Some(FlowFault::BadEntry { entry }));
+    assert!(rt;
+        expand(rt.alloc(), &image, entry, Isa::Rv32i, 32).err()
+            == Some(FlowFault::BadEntry { entry })
+    );
     Ok(())
 }
 
@@ -273,6 +282,97 @@ fn calls(alloc: Global, functions: usize) -> Result<Vec<u32>, AllocError> {
     }
     words.push(RETURN)?;
     Ok(words)
+}
+
+fn expanded_parcels(
+    rt: &(impl Abort + AllocGlobal),
+    parcels: &[u16],
+    line: u32,
+) -> Result<Result<Expanded, FlowFault>, Fail>
+    requires { 0 < line }
+{
+    let mut text = Vec::new(rt.alloc());
+    for parcel in parcels {
+        text.extend_from_slice(&parcel.to_le_bytes())?;
+    }
+    let image = image_with(rt, &text)?;
+    Ok(expand(rt.alloc(), &image, image.entry(), Isa::Rv32ic, line))
+}
+
+// What a node fetches: the address, its instruction's address and the part of that, and its successors.
+type Fetch = (u32, u32, u8, Option<u32>, Option<u32>);
+
+fn fetches(alloc: Global, expanded: &Expanded) -> Result<Vec<Fetch>, AllocError> {
+    let mut fetches = Vec::new(alloc);
+    for number in 0..expanded.graph().nodes().len() as u32 {
+        let node = expanded.graph().nodes()[number as usize];
+        let config = expanded.config(number);
+        fetches.push((node.at, config.at, config.part, node.first, node.second))?;
+    }
+    Ok(fetches)
+}
+
+#[test]
+fn an_instruction_across_two_lines_is_fetched_in_two_parts(rt: HostRuntime) -> Result<(), Fail> {
+    // C.NOP, an ADDI of four bytes, and C.EBREAK or a C.J to the ADDI.
+    let ends = [0x0001, 0x0013, 0x0000, 0x9002].as_slice();
+    let loops = [0x0001, 0x0013, 0x0000, 0xbff5].as_slice();
+    for (parcels, line, expected) in [
+        (
+            ends,
+            4,
+            [
+                (0x10000, 0x10000, 0, Some(1), None),
+                (0x10002, 0x10002, 0, Some(2), None),
+                (0x10004, 0x10002, 1, Some(3), None),
+                (0x10006, 0x10006, 0, None, None),
+            ]
+            .as_slice(),
+        ),
+        (
+            ends,
+            16,
+            [
+                (0x10000, 0x10000, 0, Some(1), None),
+                (0x10002, 0x10002, 0, Some(2), None),
+                (0x10006, 0x10006, 0, None, None),
+            ]
+            .as_slice(),
+        ),
+        (
+            loops,
+            4,
+            [
+                (0x10000, 0x10000, 0, Some(1), None),
+                (0x10002, 0x10002, 0, Some(2), None),
+                (0x10004, 0x10002, 1, Some(3), None),
+                (0x10006, 0x10006, 0, Some(1), None),
+            ]
+            .as_slice(),
+        ),
+    ] {
+        let graph = expanded_parcels(&rt, parcels, line)??;
+        assert!(rt;
+            fetches(rt.alloc(), &graph)?.as_slice() == expected,
+            "{parcels:?} {line}"
+        );
+    }
+    Ok(())
+}
+
+#[test]
+fn a_parcel_that_is_no_instruction_is_named(rt: HostRuntime) -> Result<(), Fail> {
+    let at = 0x10000;
+    for (parcels, word) in [
+        ([0x0000, 0x0000].as_slice(), 0x0000),
+        ([0x001f, 0x0000].as_slice(), 0x001f),
+    ] {
+        assert!(rt;
+            expanded_parcels(&rt, parcels, 32)?.err() == Some(FlowFault::Illegal { at, word }),
+            "{parcels:?}"
+        );
+    }
+    Ok(())
 }
 
 #[test]

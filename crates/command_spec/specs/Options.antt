@@ -1,5 +1,5 @@
 -- The options of a command in the subject's own words: what is given, and the arguments that it is written with.
-use Rattle.std.specs.Prelude.{◌≡◌, ℕ, List, [], ◌∷◌, ◌++◌, map, Option, Some, None, is_some, Contains}
+use Rattle.std.specs.Prelude.{◌≡◌, ℕ, List, [], ◌∷◌, ◌++◌, map, Option, Some, is_some, Contains}
 use Rattle.std.specs.Option.{option_to_list}
 use Rattle.command_spec.specs.Plain.{OptionKind, takes_value}
 

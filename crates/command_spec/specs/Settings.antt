@@ -1,14 +1,15 @@
 -- The settings that the arguments of a command line give, if they give any. The arguments lack the program's name.
 -- Commands, names, defaults and ranges are this project's own.
-use Rattle.std.specs.Prelude.{ℕ, List, [], ◌∷◌, Option, Some, None, option_map, option_and_then, codes, bytes_eq, if◌then◌else◌}
-use Rattle.cache_spec.specs.Geometry.{Geometry, is_in_range}
+use Rattle.std.specs.Prelude.{ℕ, List, [], ◌∷◌, Option, Some, None, option_map, option_and_then, codes, bytes_eq, if◌then◌else◌, IsTrue}
+use Rattle.cache_spec.specs.Geometry.{Geometry, is_in_range, is_line}
 use Rattle.cache_spec.specs.declared.start.Start.{Start}
 use Rattle.cache_spec.specs.declared.start.Start.TheVariants.{Empty, Any}
+use Rattle.riscv_spec.specs.declared.parcel.Isa.{Isa}
+use Rattle.riscv_spec.specs.declared.parcel.Isa.TheVariants.{Rv32i, Rv32ic}
 use Rattle.command_spec.specs.declared.settings.Ask.{Ask}
 use Rattle.command_spec.specs.declared.settings.Ask.TheVariants.{Report, Graph}
 use Rattle.command_spec.specs.declared.settings.Command.{Command}
 use Rattle.command_spec.specs.declared.settings.Command.TheVariants as commands
-use Rattle.command_spec.specs.declared.settings.ReportAsk.{ReportAsk}
 use Rattle.command_spec.specs.declared.settings.Settings.{Settings}
 use Rattle.command_spec.specs.Number.{number_of, address_of}
 use Rattle.command_spec.specs.Plain.{OptionKind, valued, flag, value_of, has_option, is_plain}
@@ -21,18 +22,23 @@ options_of commands.Classify =
     ∷ valued (codes "--ways")
     ∷ valued (codes "--entry")
     ∷ valued (codes "--start")
+    ∷ valued (codes "--isa")
     ∷ flag (codes "--contexts")
     ∷ []
-options_of commands.Graph = valued (codes "--entry") ∷ []
+options_of commands.Graph = valued (codes "--entry") ∷ valued (codes "--line") ∷ valued (codes "--isa") ∷ []
 
 -- the number that a value spells, or the default where no value is given
 abbrev pub number_or : ℕ → Option (List ℕ) → Option ℕ
 number_or default None = Some default
 number_or default (Some text) = number_of text
 
--- the number after a name of `classify`, or the default
-abbrev pub number_at : List ℕ → ℕ → List (List ℕ) → Option ℕ
-number_at name default arguments = number_or default (value_of (options_of commands.Classify) name arguments)
+-- the number after a name of a command, or the default
+abbrev pub number_at : Command → List ℕ → ℕ → List (List ℕ) → Option ℕ
+number_at command name default arguments = number_or default (value_of (options_of command) name arguments)
+
+-- how many bytes a line is to have: 32 unless the arguments say otherwise
+abbrev pub line_in : Command → List (List ℕ) → Option ℕ
+line_in command arguments = number_at command (codes "--line") 32 arguments
 
 -- the geometry of three numbers, where they are in their ranges
 abbrev pub geometry_of : ℕ → ℕ → ℕ → Option Geometry
@@ -41,14 +47,14 @@ geometry_of line sets ways =
     then Some (record { line = line; sets = sets; ways = ways })
     else None
 
--- 32 bytes a line, 64 sets and 4 ways unless the arguments say otherwise
+-- the line, and 64 sets and 4 ways unless the arguments say otherwise
 abbrev pub geometry_in : List (List ℕ) → Option Geometry
 geometry_in arguments =
     option_and_then (λ line.
     option_and_then (λ sets.
-    option_and_then (λ ways. geometry_of line sets ways) (number_at (codes "--ways") 4 arguments))
-    (number_at (codes "--sets") 64 arguments))
-    (number_at (codes "--line") 32 arguments)
+    option_and_then (λ ways. geometry_of line sets ways) (number_at commands.Classify (codes "--ways") 4 arguments))
+    (number_at commands.Classify (codes "--sets") 64 arguments))
+    (line_in commands.Classify arguments)
 
 -- the address that a value spells; no value is one that asks for nothing
 abbrev pub address_if : Option (List ℕ) → Option (Option ℕ)
@@ -69,11 +75,23 @@ start_of (Some text) =
 abbrev pub start_in : List (List ℕ) → Option Start
 start_in arguments = start_of (value_of (options_of commands.Classify) (codes "--start") arguments)
 
--- a report of a cache of this geometry and start, with contexts where the arguments have the flag
-abbrev pub report_as : List (List ℕ) → Geometry → Start → Ask
-report_as arguments geometry start =
+-- the instructions that a value names; without one those of RV32I
+abbrev pub isa_of : Option (List ℕ) → Option Isa
+isa_of None = Some Rv32i
+isa_of (Some text) =
+    if bytes_eq text (codes "rv32i") then Some Rv32i else if bytes_eq text (codes "rv32ic") then Some Rv32ic else None
+
+-- those that the arguments of a command name
+abbrev pub isa_in : Command → List (List ℕ) → Option Isa
+isa_in command arguments = isa_of (value_of (options_of command) (codes "--isa") arguments)
+
+-- a report of a program of these instructions in a cache of this geometry and start, with contexts where the arguments
+-- have the flag
+abbrev pub report_as : List (List ℕ) → Geometry → Isa → Start → Ask
+report_as arguments geometry isa start =
     Report (record {
       geometry = geometry;
+      isa = isa;
       start = start;
       contexts = has_option (options_of commands.Classify) (codes "--contexts")
           arguments;
@@ -82,12 +100,30 @@ report_as arguments geometry start =
 -- the report that the arguments of `classify` ask for
 abbrev pub report_in : List (List ℕ) → Option Ask
 report_in arguments =
-    option_and_then (λ geometry. option_map (report_as arguments geometry) (start_in arguments)) (geometry_in arguments)
+    option_and_then (λ geometry.
+    option_and_then (λ isa. option_map (report_as arguments geometry isa) (start_in arguments))
+    (isa_in commands.Classify arguments))
+    (geometry_in arguments)
+
+-- the graph of a program of these instructions, with lines of this size, where that is in its range
+abbrev pub graph_of : Isa → ℕ → Option Ask
+graph_of isa line = if is_line line then Some (Graph (record { isa = isa; line = line })) else None
+
+-- a graph is asked for with a line in its range
+abbrev pub HasGraphLine : Ask → Type 0
+HasGraphLine (Report ask) = Unit {0}
+HasGraphLine (Graph ask) = IsTrue (is_line ask.line)
+
+-- the graph that the arguments of `graph` ask for
+abbrev pub graph_in : List (List ℕ) → Option Ask
+graph_in arguments =
+    option_and_then (λ isa. option_and_then (graph_of isa) (line_in commands.Graph arguments))
+    (isa_in commands.Graph arguments)
 
 -- what the command asks for
 abbrev pub ask_in : Command → List (List ℕ) → Option Ask
 ask_in commands.Classify arguments = report_in arguments
-ask_in commands.Graph arguments = Some Graph
+ask_in commands.Graph arguments = graph_in arguments
 
 -- the settings with this entry
 abbrev pub settings_with : Option ℕ → Ask → Settings

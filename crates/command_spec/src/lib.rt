@@ -8,4 +8,4 @@ mod laws;
 mod settings;
 
 pub use laws::options_laws;
-pub use settings::{Ask, Command, ReportAsk, Settings};
+pub use settings::{Ask, Command, GraphAsk, ReportAsk, Settings};

@@ -4,6 +4,7 @@ ghost use Rattle.command_spec.specs.Settings.{options_of};
 
 use cache_geom::Geometry;
 use cache_spec::Start;
+use riscv_spec::Isa;
 
 /// What the arguments of a command line ask for.
 #[derive(Clone, Copy, Debug, PartialEq, Eq)]
@@ -19,16 +20,25 @@ pub enum Ask {
     /// The report of the program.
     Report(ReportAsk),
     /// The text of the program's graph.
-    Graph,
+    Graph(GraphAsk),
 }
 
-/// Which report is asked for: of a cache of this shape that starts so, by address, or with a line for each
-/// configuration.
+/// Which report is asked for: of a program of these instructions in a cache of this shape that starts so, by address, or
+/// with a line for each configuration.
 #[derive(Clone, Copy, Debug, PartialEq, Eq)]
 pub struct ReportAsk {
     pub geometry: Geometry,
+    pub isa: Isa,
     pub start: Start,
     pub contexts: bool,
+}
+
+/// Which graph is asked for: of a program of these instructions, fetched from cache lines of this size.
+#[derive(Clone, Copy, Debug, PartialEq, Eq)]
+pub struct GraphAsk {
+    pub isa: Isa,
+    /// The bytes of a line: a power of two from 4 to 256.
+    pub line: u32,
 }
 
 /// The commands that have options.
@@ -44,8 +54,8 @@ impl Command {
         ensures { result ≡ takes_value (options_of self) option.now }
     {
         match (self, option) {
-            (_, "--entry") => Some(true),
-            (Command::Classify, "--line" | "--sets" | "--ways" | "--start") => Some(true),
+            (_, "--line" | "--entry" | "--isa") => Some(true),
+            (Command::Classify, "--sets" | "--ways" | "--start") => Some(true),
             (Command::Classify, "--contexts") => Some(false),
             _ => None,
         }

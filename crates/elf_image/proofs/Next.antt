@@ -11,7 +11,7 @@ use Rattle.elf_spec.specs.declared.segment.Segment.{Segment}
 use Rattle.elf_spec.specs.Number.{u16_at, u32_at}
 use Rattle.elf_spec.specs.Image.{Image}
 use Rattle.elf_spec.specs.Parcel.{parcel_at, has_parcel, HasParcel, IsNextParcel}
-use Rattle.elf_spec.specs.Word.{has_bytes, place_in, word_at, is_text, IsText, IsNext, IsNextText}
+use Rattle.elf_spec.specs.Word.{has_bytes, place_in, word_at, has_word, HasWord, IsNext, IsNextWord}
 use Rattle.elf_image.specs.Among.{has_item, some_has_item, IsNextIn, IsNextAmong}
 use Rattle.elf_image.specs.Fits.{EndsBefore, SegmentFits}
 use Rattle.elf_image.proofs.Found.{bytes_after}
@@ -49,7 +49,7 @@ found_by f true size segments p = sym (found_any f size segments p)
 found_by f false size segments p = found_none size segments p
 
 -- an address is in the text where some segment has a word there
-text_is : (image : Image) (p : ℕ) → some_has_item 4 image.segments p ≡ is_text image p
+text_is : (image : Image) (p : ℕ) → some_has_item 4 image.segments p ≡ has_word image p
 unfolding word_at
 text_is image p = found_by (λ s. u32_at image.file (s.offset + (p - s.at))) (p % 4 == 0) 4 image.segments p
 
@@ -60,8 +60,8 @@ parcel_is image p = found_by (λ s. u16_at image.file (place_in s p)) (p % 2 == 
 
 -- the next word among the segments is the next of the text
 pub next_text : (image : Image) (from : ℕ) (next : Option ℕ) → IsNextAmong 4 image.segments from next
-    → IsNextText image from next
-next_text image from next is = next_same (some_has_item 4 image.segments) (is_text image) from next (text_is image) is
+    → IsNextWord image from next
+next_text image from next is = next_same (some_has_item 4 image.segments) (has_word image) from next (text_is image) is
 
 -- and the next parcel the next of the text of parcels
 pub next_parcel : (image : Image) (from : ℕ) (next : Option ℕ) → IsNextAmong 2 image.segments from next
@@ -88,7 +88,7 @@ items_below size image p each has =
     omega (arith, inside, fits.below)
 
 -- so do the words of the text
-pub text_below : (image : Image) (p : ℕ) → All (SegmentFits (length image.file)) image.segments → IsText image p
+pub text_below : (image : Image) (p : ℕ) → All (SegmentFits (length image.file)) image.segments → HasWord image p
     → p + 4 ≤ 2 ^ 32
 text_below image p each has = items_below 4 image p each (text_is image p ∙ has)
 

@@ -2,7 +2,7 @@ ghost use Rattle.std.specs.Prelude.{◌≡◌, ℕ, ◌+◌, ◌-◌, ◌^◌, �
 ghost use Rattle.std.specs.List.{AllWithin};
 ghost use Rattle.elf_spec.specs.Number.{u32_at};
 ghost use Rattle.elf_spec.specs.Parcel.{parcel_at, long_at, HasParcel, IsNextParcel};
-ghost use Rattle.elf_spec.specs.Word.{has_bytes, segment_with, place_in, word_at, IsText, IsNextText};
+ghost use Rattle.elf_spec.specs.Word.{has_bytes, segment_with, place_in, word_at, HasWord, IsNextWord};
 ghost use Rattle.elf_image.specs.Among.{IsNextIn, IsNextAmong};
 ghost use Rattle.elf_image.specs.Fits.{EndsBefore, Fits};
 
@@ -42,7 +42,7 @@ impl Image {
     pub fn segments(&self) -> &[Segment]
         ensures same { result.now ≡ self.now.segments }
         ensures fit { Fits self.now.file self.now.segments }
-        ensures text { (p : ℕ) → IsText self.now p → p + 4 ≤ 2 ^ 32 }
+        ensures words { (p : ℕ) → HasWord self.now p → p + 4 ≤ 2 ^ 32 }
         ensures parcels { (p : ℕ) → HasParcel self.now p → p + 2 ≤ 2 ^ 32 }
     {
         &self.segments
@@ -52,7 +52,8 @@ impl Image {
     /// one executable segment.
     #[tactic(auto, unfolding(elf_spec::specs::Word::word_at))]
     pub fn word(&self, p: u32) -> Option<u32>
-        ensures { result ≡ word_at self.now p }
+        ensures word { result ≡ word_at self.now p }
+        ensures end { IfSome result (λ _. p + 4 ≤ 2 ^ 32) }
     {
         if p % 4 != 0 {
             return None;
@@ -60,9 +61,9 @@ impl Image {
         self.four_bytes(p)
     }
 
-    /// The least address of the text at or above one. None exactly where there is none.
+    /// The least address at or above one that has a word. None exactly where there is none.
     pub fn word_from(&self, p: u32) -> Option<u32>
-        ensures { IsNextText self.now p result }
+        ensures { IsNextWord self.now p result }
     {
         next_from(&self.segments, p, 4)
     }
@@ -71,7 +72,8 @@ impl Image {
     /// executable segment.
     #[tactic(auto, unfolding(elf_spec::specs::Parcel::parcel_at))]
     pub fn parcel(&self, p: u32) -> Option<u16>
-        ensures { result ≡ parcel_at self.now p }
+        ensures parcel { result ≡ parcel_at self.now p }
+        ensures end { IfSome result (λ _. p + 2 ≤ 2 ^ 32) }
     {
         if p % 2 != 0 {
             return None;
@@ -86,7 +88,8 @@ impl Image {
     /// in one executable segment.
     #[tactic(auto, unfolding(elf_spec::specs::Parcel::long_at))]
     pub fn long(&self, p: u32) -> Option<u32>
-        ensures { result ≡ long_at self.now p }
+        ensures long { result ≡ long_at self.now p }
+        ensures end { IfSome result (λ _. p + 4 ≤ 2 ^ 32) }
     {
         if p % 2 != 0 {
             return None;
@@ -103,7 +106,8 @@ impl Image {
 
     /// The number of the four bytes from any address on.
     fn four_bytes(&self, p: u32) -> Option<u32>
-        ensures { result ≡ option_map (λ s. u32_at self.now.file (place_in s p)) (segment_with 4 self.now p) }
+        ensures bytes { result ≡ option_map (λ s. u32_at self.now.file (place_in s p)) (segment_with 4 self.now p) }
+        ensures end { IfSome result (λ _. p + 4 ≤ 2 ^ 32) }
     {
         match segment_of(&self.segments, p, 4) {
             Some(segment) => Some(u32_at(&self.file, place_in(&segment, p))),

@@ -18,7 +18,7 @@ long_at image address =
     then option_map (λ segment. u32_at image.file (place_in segment address)) (segment_with 4 image address)
     else None
 
--- the address is in the text of parcels
+-- the address has a parcel
 abbrev pub has_parcel : Image → ℕ → Bool
 has_parcel image address = is_some (parcel_at image address)
 

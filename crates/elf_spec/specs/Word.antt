@@ -1,4 +1,4 @@
--- The words of an image: its text.
+-- The words of an image.
 use Rattle.std.specs.Prelude.{ℕ, ◌+◌, ◌-◌, ◌%◌, ◌≤◌, Bool, ◌&&◌, Option, Some, None, option_map, find, nat_le, ◌==◌, if◌then◌else◌, is_some, IsTrue, IsFalse}
 use Rattle.elf_spec.specs.declared.segment.Segment.{Segment}
 use Rattle.elf_spec.specs.Number.{u32_at}
@@ -23,12 +23,12 @@ word_at image address =
     then option_map (λ segment. u32_at image.file (place_in segment address)) (segment_with 4 image address)
     else None
 
--- the address is in the text
-abbrev pub is_text : Image → ℕ → Bool
-is_text image address = is_some (word_at image address)
+-- the address has a word
+abbrev pub has_word : Image → ℕ → Bool
+has_word image address = is_some (word_at image address)
 
-abbrev pub IsText : Image → ℕ → Type 0
-IsText image address = IsTrue (is_text image address)
+abbrev pub HasWord : Image → ℕ → Type 0
+HasWord image address = IsTrue (has_word image address)
 
 -- the least number at or above one that passes a test, or none where none does
 abbrev pub IsNext : (ℕ → Bool) → ℕ → Option ℕ → Type 0
@@ -36,6 +36,6 @@ IsNext test from None = (n : ℕ) → from ≤ n → IsFalse (test n)
 IsNext test from (Some found) =
     IsTrue (test found) × (from ≤ found) × ((n : ℕ) → from ≤ n → IsTrue (test n) → found ≤ n)
 
--- the least address of the text at or above one
-abbrev pub IsNextText : Image → ℕ → Option ℕ → Type 0
-IsNextText image from next = IsNext (is_text image) from next
+-- the least address at or above one that has a word
+abbrev pub IsNextWord : Image → ℕ → Option ℕ → Type 0
+IsNextWord image from next = IsNext (has_word image) from next

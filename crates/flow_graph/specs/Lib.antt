@@ -1,2 +1,4 @@
 pub mod Offset
+pub mod Place
+pub mod Read
 pub mod Refusal

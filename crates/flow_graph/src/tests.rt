@@ -1,4 +1,6 @@
-use crate::{FlowFault, Frame, Link, Next, is_target, next_of};
+use crate::{
+    FlowFault, Frame, Instruction, Isa, Link, Next, instruction_at, is_target, next_of, parts,
+};
 use elf_image::{Image, read};
 use std::alloc::Global;
 use std::process::Abort;
@@ -11,27 +13,45 @@ const HEAD: [u8; 68] = [
     0x54, 0, 0, 0, 0, 0, 1, 0, 0, 0, 1, 0,
 ];
 
-fn image_of(rt: &impl Abort, alloc: Global, words: &[u32]) -> Result<Image, Fail> {
-    assert!(rt; words.len() < 100);
-    let size = 4 * words.len() as u32;
+fn image_with(rt: &impl Abort, alloc: Global, text: &[u8]) -> Result<Image, Fail> {
+    assert!(rt; text.len() < 500);
+    let size = text.len() as u32;
     let mut file = HEAD.to_vec(alloc)?;
     file.extend_from_slice(&size.to_le_bytes())?;
     file.extend_from_slice(&size.to_le_bytes())?;
     file.extend_from_slice(&[5, 0, 0, 0, 4, 0, 0, 0])?;
-    for word in words {
-        file.extend_from_slice(&word.to_le_bytes())?;
-    }
+    file.extend_from_slice(text)?;
     assert!(rt; file.len() < 1000);
     Ok(read(alloc, file)?)
+}
+
+fn image_of(rt: &impl Abort, alloc: Global, words: &[u32]) -> Result<Image, Fail> {
+    let mut text = Vec::new(alloc);
+    for word in words {
+        text.extend_from_slice(&word.to_le_bytes())?;
+    }
+    image_with(rt, alloc, &text)
+}
+
+fn image_of_parcels(rt: &impl Abort, alloc: Global, parcels: &[u16]) -> Result<Image, Fail> {
+    let mut text = Vec::new(alloc);
+    for parcel in parcels {
+        text.extend_from_slice(&parcel.to_le_bytes())?;
+    }
+    image_with(rt, alloc, &text)
 }
 
 /// An address, the newest open call, and where control goes from there.
 type Case = (u32, Option<Frame>, Result<Next, FlowFault>);
 
 fn check(rt: &impl Abort, image: &Image, cases: &[Case]) {
+    check_as(rt, image, Isa::Rv32i, cases);
+}
+
+fn check_as(rt: &impl Abort, image: &Image, isa: Isa, cases: &[Case]) {
     for (at, top, next) in cases {
-        assert!(rt; image.word(*at).is_some());
-        assert_eq!(rt; next_of(image, *at, *top), *next, "at {at:#010x}");
+        assert!(rt; instruction_at(image, isa, *at).is_some());
+        assert_eq!(rt; next_of(image, isa, *at, *top), *next, "at {at:#010x}");
     }
 }
 
@@ -41,6 +61,10 @@ const fn frame(back: u32, link: Link, callee: u32) -> Frame {
 
 const fn bad_target(at: u32, target: u32) -> Result<Next, FlowFault> {
     Err(FlowFault::BadTarget { at, target })
+}
+
+const fn illegal(at: u32, word: u32) -> Result<Next, FlowFault> {
+    Err(FlowFault::Illegal { at, word })
 }
 
 const fn enters(target: u32, back: u32, link: Link) -> Result<Next, FlowFault> {
@@ -74,14 +98,7 @@ fn each_kind_leads_where_its_word_says(rt: HostRuntime) -> Result<(), Fail> {
         (0x10014, None, enters(0x1001c, 0x10018, Link::X5)),
         (0x1001c, None, Err(FlowFault::ComputedJump { at: 0x1001c })),
         (0x10020, None, Ok(Next::Ends)),
-        (
-            0x10024,
-            None,
-            Err(FlowFault::Illegal {
-                at: 0x10024,
-                word: 0xffff_ffff,
-            }),
-        ),
+        (0x10024, None, illegal(0x10024, 0xffff_ffff)),
         (0x10028, None, Ok(Next::Fork(0x1002c, 0x10024))),
         (0x1002c, None, Ok(Next::Go(0x1002c))),
     ];
@@ -120,7 +137,7 @@ fn a_pair_leads_where_both_words_say(rt: HostRuntime) -> Result<(), Fail> {
         (0x10024, false),
         (0, false),
     ] {
-        assert_eq!(rt; is_target(&image, p), good, "at {p:#010x}");
+        assert_eq!(rt; is_target(&image, Isa::Rv32i, p), good, "at {p:#010x}");
     }
     Ok(())
 }
@@ -175,5 +192,115 @@ fn a_call_in_the_last_word_opens_a_frame(rt: HostRuntime) -> Result<(), Fail> {
     let image = image_of(&rt, rt.alloc(), &[0x0010_0073, 0xffdf_f0ef])?;
     let cases = [(0x10004, None, enters(0x10000, 0x10008, Link::X1))];
     check(&rt, &image, &cases);
+    Ok(())
+}
+
+#[test]
+fn an_instruction_has_the_length_of_its_parcel(rt: HostRuntime) -> Result<(), Fail> {
+    let parcels = [0x0001, 0x0013, 0x0000, 0x001f, 0x0000, 0x0013];
+    let image = image_of_parcels(&rt, rt.alloc(), &parcels)?;
+    for (at, instruction) in [
+        (0x10000, Some(Instruction::Parcel(0x0001))),
+        (0x10001, None),
+        (0x10002, Some(Instruction::Word(0x0000_0013))),
+        (0x10004, Some(Instruction::Parcel(0x0000))),
+        (0x10006, Some(Instruction::Cut(0x001f))),
+        (0x1000a, Some(Instruction::Cut(0x0013))),
+        (0x1000c, None),
+    ] {
+        assert_eq!(rt;
+            instruction_at(&image, Isa::Rv32ic, at),
+            instruction,
+            "at {at:#010x}"
+        );
+    }
+    assert_eq!(rt;
+        instruction_at(&image, Isa::Rv32i, 0x10000),
+        Some(Instruction::Word(0x0013_0001))
+    );
+    assert_eq!(rt; instruction_at(&image, Isa::Rv32i, 0x10002), None);
+    Ok(())
+}
+
+#[test]
+fn each_parcel_leads_where_it_says(rt: HostRuntime) -> Result<(), Fail> {
+    let parcels = [
+        0x0001, // c.nop
+        0x2011, // c.jal to the second next parcel
+        0x9002, // c.ebreak
+        0xc111, // c.beqz to the second next parcel
+        0xbffd, // c.j to the parcel before
+        0x8082, // c.jr ra
+        0x8502, // c.jr a0
+        0x0000, // the parcel of zeros
+        0x001f, // the first of more than two
+        0x0013, // the first of two, of which the second is cut off
+    ];
+    let image = image_of_parcels(&rt, rt.alloc(), &parcels)?;
+    let by_x1 = Some(frame(0x10004, Link::X1, 0x10006));
+    let cases = [
+        (0x10000, None, Ok(Next::Go(0x10002))),
+        (0x10002, None, enters(0x10006, 0x10004, Link::X1)),
+        (0x10004, None, Ok(Next::Ends)),
+        (0x10006, None, Ok(Next::Fork(0x10008, 0x1000a))),
+        (0x10008, None, Ok(Next::Go(0x10006))),
+        (0x1000a, by_x1, Ok(Next::Back(0x10004))),
+        (0x1000a, None, Ok(Next::Ends)),
+        (0x1000c, None, Err(FlowFault::ComputedJump { at: 0x1000c })),
+        (0x1000e, None, illegal(0x1000e, 0x0000)),
+        (0x10010, None, illegal(0x10010, 0x001f)),
+        (0x10012, None, illegal(0x10012, 0x0013)),
+    ];
+    check_as(&rt, &image, Isa::Rv32ic, &cases);
+    Ok(())
+}
+
+#[test]
+fn a_pair_may_end_in_two_bytes(rt: HostRuntime) -> Result<(), Fail> {
+    let parcels = [
+        0x0097, 0x0000, // auipc ra, 0
+        0x9082, // c.jalr ra, which is a call of the auipc
+        0x9002, // c.ebreak
+        0x0317, 0x0001, // auipc t1, of which the second half is c.nop
+        0x8302, // c.jr t1
+        0xbff5, // c.j to the parcel of the auipc's second half
+    ];
+    let image = image_of_parcels(&rt, rt.alloc(), &parcels)?;
+    let cases = [
+        (0x10000, None, Ok(Next::Go(0x10004))),
+        (0x10004, None, enters(0x10000, 0x10006, Link::X1)),
+        (0x10008, None, Ok(Next::Go(0x1000c))),
+        // Of two bytes, so that it doesn't stand before a second half as the AUIPC does.
+        (0x1000a, None, bad_target(0x1000a, 0x1000c)),
+        (0x1000c, None, bad_target(0x1000c, 0x20008)),
+    ];
+    check_as(&rt, &image, Isa::Rv32ic, &cases);
+    for (p, good) in [
+        (0x10000, true),
+        (0x10004, false),
+        (0x10006, true),
+        (0x1000a, true),
+        (0x1000c, false),
+        (0x1000f, false),
+    ] {
+        assert_eq!(rt; is_target(&image, Isa::Rv32ic, p), good, "at {p:#010x}");
+    }
+    Ok(())
+}
+
+#[test]
+fn two_parts_are_fetched_where_a_line_begins_in_the_middle(rt: HostRuntime) -> Result<(), Fail> {
+    let parcels = [0x0001, 0x0013, 0x0000, 0x0001, 0x0013, 0x0000];
+    let image = image_of_parcels(&rt, rt.alloc(), &parcels)?;
+    for (isa, line, at, count) in [
+        (Isa::Rv32ic, 4, 0x10000, 1),
+        (Isa::Rv32ic, 4, 0x10002, 2),
+        (Isa::Rv32ic, 4, 0x10008, 1),
+        (Isa::Rv32ic, 8, 0x10002, 1),
+        (Isa::Rv32i, 4, 0x10000, 1),
+    ] {
+        assert!(rt; instruction_at(&image, isa, at).is_some());
+        assert_eq!(rt; parts(&image, isa, line, at), count, "at {at:#010x}");
+    }
     Ok(())
 }

@@ -1,5 +1,5 @@
 -- What a comparison by numbers tells of configurations: which one comes first, or that they are the same.
-use Rattle.std.proofs.Common.{◌≡◌, ℕ, ◌<◌, List, [], ◌∷◌, ◌++◌, refl, ap, subst, inl, inr}
+use Rattle.std.proofs.Common.{◌≡◌, ℕ, ◌<◌, List, [], ◌∷◌, ◌++◌, refl, sym, ap, subst, inl, inr}
 use Rattle.std.proofs.lemmas.Cmp.{ranked}
 use Rattle.std.specs.Prelude.{◌⊎◌, flat_map}
 use Rattle.std.specs.Ordering.{nat_cmp, ordering_then, MatchOrdering}
@@ -9,7 +9,7 @@ use Rattle.std.specs.Cmp.Lexicographic.{slice_cmp}
 use Rattle.riscv_spec.specs.declared.kind.Link.{Link}
 use Rattle.riscv_spec.specs.declared.kind.Link.TheVariants.{X1, X5}
 use Rattle.flow_spec.specs.declared.frame.Frame.{Frame}
-use Rattle.flow_spec.specs.Configuration.{Configuration, configuration}
+use Rattle.flow_spec.specs.Configuration.{Configuration}
 use Rattle.flow_spec.specs.Order.{link_number, frame_numbers, configuration_cmp}
 use Rattle.flow_spec.specs.Before.{IsLinkBefore, IsFrameBefore, AreFramesBefore, IsBefore}
 
@@ -41,6 +41,12 @@ tells-number x y Greater is = tt
 -- what the order of numbers tells
 numbers-tell : (x y : ℕ) → Tells (nat_cmp x y) (x < y) (x ≡ y)
 numbers-tell x y = tells-number x y (nat_cmp x y) (ranked x y (nat_cmp x y) refl)
+
+-- comparisons one after another
+then-assoc : (o p q : Ordering) → ordering_then (ordering_then o p) q ≡ ordering_then o (ordering_then p q)
+then-assoc Less p q = refl
+then-assoc Equal p q = refl
+then-assoc Greater p q = refl
 
 -- what the numbers of two links tell
 links-tell : (link other : Link)
@@ -141,18 +147,27 @@ frames-tell (frame ∷ frames) (other ∷ others) =
     (first-before frame other frames others) (same-first frame other frames others)
     (frame-tells _ _ frame other (numbers frames) (numbers others) (frames-tell frames others))
 
--- configurations with the same parts are the same
-configuration-parts : (frames others : List Frame) (p q : ℕ) → (p ≡ q) × (frames ≡ others)
-    → configuration frames p ≡ configuration others q
-configuration-parts frames others p q (at, same) = cc
+-- a configuration by its members
+abbrev configuration_by : List Frame → ℕ → ℕ → Configuration
+configuration_by frames at part = record { frames = frames; at = at; part = part }
+
+-- configurations with the same members are the same
+same-members : (frames others : List Frame) (p q m n : ℕ) → (p ≡ q) × ((frames ≡ others) × (m ≡ n))
+    → configuration_by frames p m ≡ configuration_by others q n
+same-members frames others p q m n (at, (same, part)) = cc
 
 -- what the order tells of two configurations
 configurations-tell : (c d : Configuration) → Tells (configuration_cmp c d) (IsBefore c d) (c ≡ d)
 configurations-tell c d =
-    tells-weaker (configuration_cmp c d) (λ before. before) (configuration-parts c.frames d.frames c.at d.at)
-    (tells-then _ _ _ _ (nat_cmp c.at d.at)
-    (slice_cmp nat_cmp (flat_map frame_numbers c.frames) (flat_map frame_numbers d.frames))
-    (numbers-tell c.at d.at) (frames-tell c.frames d.frames))
+    let numbers = flat_map frame_numbers in
+    let at = nat_cmp c.at d.at in
+    let frames = slice_cmp nat_cmp (numbers c.frames) (numbers d.frames) in
+    let part = nat_cmp c.part d.part in
+    subst (λ o. Tells o (IsBefore c d) (c ≡ d)) (sym (then-assoc at frames part))
+    (tells-weaker (ordering_then at (ordering_then frames part)) (λ before. before)
+    (same-members c.frames d.frames c.at d.at c.part d.part)
+    (tells-then _ _ _ _ at (ordering_then frames part) (numbers-tell c.at d.at)
+    (tells-then _ _ _ _ frames part (frames-tell c.frames d.frames) (numbers-tell c.part d.part))))
 
 -- what Less tells
 before-by : (c d : Configuration) (o : Ordering) → Tells o (IsBefore c d) (c ≡ d) → o ≡ Less → IsBefore c d

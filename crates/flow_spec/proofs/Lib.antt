@@ -1,2 +1,3 @@
 pub mod Decided
 pub mod Ordered
+pub mod Words

@@ -1,6 +1,6 @@
 -- What comes before another configuration is the lesser one, and the order is strict and total.
 use Rattle.std.proofs.Common.{◌≡◌, ℕ, ◌<◌, List, [], ◌∷◌, ◌++◌, refl, sym, ap, subst, ◌∙◌, inl, inr}
-use Rattle.std.proofs.lemmas.Cmp.{on_total, nat_list_cmp_total, tied_itself}
+use Rattle.std.proofs.lemmas.Cmp.{on_total, then_total, nat_cmp_total, nat_list_cmp_total, tied_itself}
 use Rattle.std.proofs.lemmas.List.{append-nil}
 use Rattle.std.proofs.lemmas.List.Concat.{flat_map-append}
 use Rattle.std.specs.Prelude.{◌⊎◌, ◌↔◌, flat_map}
@@ -92,17 +92,38 @@ frames-less frames others (inr parts) =
     ∙ frames-after parts.common (parts.frame ∷ parts.newer) (parts.other ∷ parts.newer_others)
     ∙ frame-less parts.frame parts.other parts.newer parts.newer_others parts.before
 
+-- what the first of three comparisons that finds a difference tells
+less-by : (c d : Configuration) → (nat_cmp c.at d.at ≡ Less) ⊎ ((nat_cmp c.at d.at ≡ Equal)
+    × ((frames_cmp c.frames d.frames ≡ Less)
+    ⊎ ((frames_cmp c.frames d.frames ≡ Equal) × (nat_cmp c.part d.part ≡ Less))))
+    → configuration_cmp c d ≡ Less
+less-by c d (inl at) = cc
+less-by c d (inr (at, inl frames)) = cc
+less-by c d (inr (at, inr (frames, part))) = cc
+
+-- lists of frames that are the same are compared as equal
+frames-same : (frames others : List Frame) → frames ≡ others → frames_cmp frames others ≡ Equal
+frames-same frames others same =
+    subst (λ o. frames_cmp frames o ≡ Equal) same (tied_itself nat_list_cmp_total (flat_map frame_numbers frames))
+
 -- a configuration that comes before another is less
 less-from_before : (c d : Configuration) → IsBefore c d → configuration_cmp c d ≡ Less
-less-from_before c d (inl less) =
-    then-first (nat_cmp c.at d.at) (frames_cmp c.frames d.frames) (number-less c.at d.at less)
-less-from_before c d (inr (same, before)) =
-    then-next (nat_cmp c.at d.at) (frames_cmp c.frames d.frames) (number-same c.at d.at same)
-    (frames-less c.frames d.frames before)
+less-from_before c d (inl less) = less-by c d (inl (number-less c.at d.at less))
+less-from_before c d (inr (same, inl before)) =
+    less-by c d (inr (number-same c.at d.at same, inl (frames-less c.frames d.frames before)))
+less-from_before c d (inr (same, inr (frames, less))) =
+    less-by c d (inr (
+      number-same c.at d.at same,
+      inr (
+        frames-same c.frames d.frames frames,
+        number-less c.part d.part less,
+      ),
+    ))
 
 -- the order is total
 pub configurations_total : IsTotalOrder configuration_cmp
-configurations_total = on_total numbers_of nat_list_cmp_total
+configurations_total = then_total (on_total numbers_of nat_list_cmp_total)
+    (on_total (λ (c : Configuration). c.part) nat_cmp_total)
 
 -- a configuration is less exactly where it comes before the other
 pub less-before : (c d : Configuration) → (configuration_cmp c d ≡ Less) ↔ IsBefore c d

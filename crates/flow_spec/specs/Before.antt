@@ -1,4 +1,5 @@
--- Which of two configurations comes first, by their addresses and their open calls. This project's own order.
+-- Which of two configurations comes first, by their addresses, their open calls and their parts. This project's own
+-- order.
 use Rattle.std.specs.Prelude.{◌≡◌, ◌⊎◌, ◌<◌, List, ◌∷◌, ◌++◌}
 use Rattle.riscv_spec.specs.declared.kind.Link.{Link}
 use Rattle.riscv_spec.specs.declared.kind.Link.TheVariants.{X1, X5}
@@ -35,6 +36,9 @@ pub record PartsBefore (frames others : List Frame) : Type 0 where
 abbrev pub AreFramesBefore : List Frame → List Frame → Type 0
 AreFramesBefore frames others = IsProperPrefix frames others ⊎ PartsBefore frames others
 
--- by address, then by the open calls
+-- by address, then by the open calls, then by part
 abbrev pub IsBefore : Configuration → Configuration → Type 0
-IsBefore c d = (c.at < d.at) ⊎ ((c.at ≡ d.at) × AreFramesBefore c.frames d.frames)
+IsBefore c d =
+    (c.at < d.at)
+    ⊎ ((c.at ≡ d.at)
+    × (AreFramesBefore c.frames d.frames ⊎ ((c.frames ≡ d.frames) × (c.part < d.part))))

@@ -1,3 +1,5 @@
+pub mod Program
+pub mod Instruction
 pub mod Transfer
 pub mod Configuration
 pub mod Next

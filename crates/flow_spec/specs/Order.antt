@@ -1,7 +1,7 @@
--- The order of configurations: by address, then by their frames from the oldest on, a prefix first. Frames are compared
--- by return address, then link, then callee.
+-- The order of configurations: by address, then by their frames from the oldest on, a prefix first, then by part. Frames
+-- are compared by return address, then link, then callee.
 use Rattle.std.specs.Prelude.{ℕ, List, [], ◌∷◌, flat_map}
-use Rattle.std.specs.Ordering.{nat_cmp}
+use Rattle.std.specs.Ordering.{nat_cmp, ordering_then}
 use Rattle.std.specs.declared.cmp.Ordering.{Ordering}
 use Rattle.std.specs.Cmp.Lexicographic.{slice_cmp}
 use Rattle.riscv_spec.specs.declared.kind.Link.{Link}
@@ -17,9 +17,9 @@ link_number X5 = 5
 abbrev pub frame_numbers : Frame → List ℕ
 frame_numbers frame = frame.back ∷ link_number frame.link ∷ frame.callee ∷ []
 
--- a configuration as numbers, by which it is compared
+-- the address and the frames of a configuration as numbers, by which it is compared
 abbrev pub numbers_of : Configuration → List ℕ
 numbers_of c = c.at ∷ flat_map frame_numbers c.frames
 
 abbrev pub configuration_cmp : Configuration → Configuration → Ordering
-configuration_cmp c d = slice_cmp nat_cmp (numbers_of c) (numbers_of d)
+configuration_cmp c d = ordering_then (slice_cmp nat_cmp (numbers_of c) (numbers_of d)) (nat_cmp c.part d.part)

@@ -1,13 +1,14 @@
 -- The successors of a configuration, in order, or its fault: where control goes, and which frames are open there.
-use Rattle.std.specs.Prelude.{ℕ, Bool, ◌||◌, List, [], ◌∷◌, ◌++◌, Option, Some, None, Result, Ok, Err, ◌==◌, if◌then◌else◌}
+use Rattle.std.specs.Prelude.{ℕ, ◌+◌, nat_lt, Bool, ◌||◌, List, [], ◌∷◌, ◌++◌, Option, Some, None, Result, Ok, Err, ◌==◌, if◌then◌else◌}
 use Rattle.std.specs.List.{list_any}
-use Rattle.elf_spec.specs.Image.{Image}
 use Rattle.flow_spec.specs.declared.frame.Frame.{Frame}
 use Rattle.flow_spec.specs.declared.next.Next.{Next}
 use Rattle.flow_spec.specs.declared.next.Next.TheVariants.{Ends, Go, Fork, Enter, Back}
 use Rattle.flow_spec.specs.declared.fault.FlowFault.{FlowFault}
 use Rattle.flow_spec.specs.declared.fault.FlowFault.TheVariants.{Recursion}
-use Rattle.flow_spec.specs.Configuration.{Configuration, configuration}
+use Rattle.flow_spec.specs.Program.{Program}
+use Rattle.flow_spec.specs.Instruction.{parts_at}
+use Rattle.flow_spec.specs.Configuration.{Configuration, configuration, next_part}
 use Rattle.flow_spec.specs.Next.{Going, next_at}
 
 abbrev pub Successors : Type 0
@@ -42,6 +43,13 @@ abbrev pub successors_by : ℕ → Configuration → Going → Successors
 successors_by entry c (Ok next) = leads_to entry c.frames c.at next
 successors_by entry c (Err fault) = Err fault
 
--- the successors of a configuration of the program that begins at the entry
-unfoldable pub successors : Image → ℕ → Configuration → Successors
-successors image entry c = successors_by entry c (next_at image c.at (newest c.frames))
+-- another part of the instruction comes after the one that the configuration fetches
+abbrev pub has_next_part : Program → Configuration → Bool
+has_next_part program c = nat_lt (c.part + 1) (parts_at program.isa program.image program.line c.at)
+
+-- the successors of a configuration: the next part of its instruction, or what that instruction leads to
+unfoldable pub successors : Program → Configuration → Successors
+successors program c =
+    if has_next_part program c
+    then Ok (next_part c ∷ [])
+    else successors_by program.entry c (next_at program.isa program.image c.at (newest c.frames))

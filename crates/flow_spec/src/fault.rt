@@ -9,14 +9,15 @@ pub enum FlowFault {
     /// The entry isn't in the text, or is the second half of a pair.
     #[error("the program can't begin at {entry:#010x}")]
     BadEntry { entry: u32 },
-    /// A word of no kind.
-    #[error("the word {word:#010x} at {at:#010x} is no instruction")]
+    /// An instruction of no kind, and its bytes as a number.
+    #[error("{word:#010x} at {at:#010x} is no instruction")]
     Illegal { at: u32, word: u32 },
     /// A jump whose target isn't known, or a return that matches no open call.
     #[error("where the jump at {at:#010x} leads isn't known")]
     ComputedJump { at: u32 },
-    /// The next word isn't in the text, or a target isn't, or is the second half of a pair.
-    #[error("the word at {at:#010x} leads to {target:#010x}, where control can't go")]
+    /// The next instruction isn't in the text, or a target isn't, or it is the second half of a pair that control would
+    /// enter in its middle.
+    #[error("the instruction at {at:#010x} leads to {target:#010x}, where control can't go")]
     BadTarget { at: u32, target: u32 },
     /// A call of a function that is open, or of the entry.
     #[error("the call at {at:#010x} is recursive")]

@@ -7,7 +7,7 @@ pub enum Next {
     Ends,
     /// To one place; the same calls stay open.
     Go(u32),
-    /// To the next word, or to the target of a branch; the same calls stay open.
+    /// To the next instruction, or to the target of a branch; the same calls stay open.
     Fork(u32, u32),
     /// To the function that a call opens.
     Enter { target: u32, frame: Frame },

@@ -12,7 +12,8 @@ use Rattle.path_model.proofs.Edges.{fit_at}
 use Rattle.flow_spec.specs.Configuration.{Configuration}
 use Rattle.flow_spec.specs.Acceptance.{Step, IsAccepted}
 use Rattle.report_spec.specs.Graph.{AreGraphLines, IsGraphLine}
-use Rattle.elf_spec.specs.Image.{Image}
+use Rattle.flow_spec.specs.Program.{Program}
+use Rattle.command_spec.specs.declared.settings.GraphAsk.{GraphAsk}
 use Rattle.transition_spec.specs.Layer.{all_of}
 use Rattle.flow_spec.specs.Successors.{successors}
 use Rattle.call_expand.specs.Expansion.{Expansion, IsNodeOf, IsGraphOf, numbered}
@@ -70,7 +71,7 @@ module _ (step : Step) (all : List Configuration) (nodes : List Node) where
       → IsGraphLine step all number c (graph_line number c node)
   line_is number c node of edges = record {
     node = refl;
-    at = refl;
+    at = of.at;
     depth = refl;
     back = refl;
     first = edges.ordered;
@@ -102,17 +103,17 @@ graph_lines step entry configurations nodes of =
     (slice_get_is nodes k node below is)))
 
 -- the text of an accepted program's graph
-pub graph_text : (image : Image) (entry : ℕ) (expanded : Expansion)
-    → ((layers : List (List Configuration)) × IsAccepted (successors image entry) image entry layers
+pub graph_text : (program : Program) (ask : GraphAsk) (expanded : Expansion)
+    → ((layers : List (List Configuration)) × IsAccepted (successors program) program layers
     × (expanded.configurations ≡ all_of layers))
-    → IsGraphOf (successors image entry) entry expanded.configurations expanded.nodes
-    → IsAcceptedWith image entry (λ layers. IsTextFrom Graph image entry layers (graph_text_of expanded))
-graph_text image entry expanded (layers, accepted, all) of =
-    let step = successors image entry in
+    → IsGraphOf (successors program) program.entry expanded.configurations expanded.nodes
+    → IsAcceptedWith program (λ layers. IsTextFrom (Graph ask) program layers (graph_text_of expanded))
+graph_text program ask expanded (layers, accepted, all) of =
+    let step = successors program in
     let lines = graph_lines_of expanded in
     let P : List Configuration → Type 0 =
     λ configurations. AreGraphLines step configurations 0 configurations lines in (
       layers,
       accepted,
-      (layers, accepted, (lines, subst P all (graph_lines step entry expanded.configurations expanded.nodes of), refl)),
+      (layers, accepted, (lines, subst P all (graph_lines step program.entry expanded.configurations expanded.nodes of), refl)),
     )

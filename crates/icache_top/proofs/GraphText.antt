@@ -70,19 +70,19 @@ SendsPrefix-take a b lines n part =
     subst (SendsPrefix a b) joined (SendsPrefix-more a b (text_of (take n lines)) (text_of (drop n lines)) part)
 
 -- a line from its fields
-pub line_is : (expanded : Expansion) (n at depth : ℕ) (back : Option ℕ) (node : Node) → n < length expanded.nodes
+pub line_is : (expanded : Expansion) (n depth : ℕ) (back : Option ℕ) (node : Node) → n < length expanded.nodes
     → length expanded.configurations ≡ length expanded.nodes → slice_get expanded.nodes n ≡ Some node
-    → at ≡ (numbered expanded.configurations n).at → depth ≡ length (numbered expanded.configurations n).frames
+    → depth ≡ length (numbered expanded.configurations n).frames
     → back ≡ option_map (λ frame. frame.back) (newest (numbered expanded.configurations n).frames)
     → slice_get (graph_lines_of expanded) n
-    ≡ Some (record { node = n; at = at; depth = depth; back = back; next = node.first; taken = node.second })
-line_is expanded n at depth back node inside long is at_is depth_is back_is =
+    ≡ Some (record { node = n; at = node.at; depth = depth; back = back; next = node.first; taken = node.second })
+line_is expanded n depth back node inside long is depth_is back_is =
     let c = numbered expanded.configurations n in
     let here : 0 + n ≡ n = omega arith in
     line_at 0 n expanded.configurations expanded.nodes c node
     (numbered_is expanded.configurations n (omega (arith, inside, long))) is
     ∙ ap (λ n. Some (graph_line n c node)) here
-    ∙ rw (at_is, depth_is, back_is) refl
+    ∙ rw (depth_is, back_is) refl
 
 -- as many lines as there are nodes are all
 pub take_all : (expanded : Expansion) (n : ℕ) → length expanded.configurations ≡ length expanded.nodes

@@ -5,7 +5,8 @@ use Rattle.elf_spec.specs.Image.{Image, image_of}
 use Rattle.elf_spec.specs.declared.fault.ElfFault.{ElfFault}
 use Rattle.flow_spec.specs.declared.fault.FlowFault.{FlowFault}
 use Rattle.flow_spec.specs.Acceptance.{IsRefused}
-use Rattle.flow_spec.specs.Configuration.{Configuration}
+use Rattle.flow_spec.specs.Program.{Program}
+use Rattle.flow_spec.specs.Configuration.{Configuration, fetched}
 use Rattle.flow_spec.specs.Successors.{successors}
 use Rattle.cache_spec.specs.Blocks.{HaveMany}
 use Rattle.command_spec.specs.declared.settings.Settings.{Settings}
@@ -18,7 +19,7 @@ use Rattle.one_answer.proofs.Programs.{accepted_refused, one_numbering, one_faul
 use Rattle.one_answer.proofs.Blocks.{few_in_all_many, one_many}
 use Rattle.one_answer.proofs.Graphs.{one_graph_text}
 use Rattle.one_answer.proofs.Reports.{one_report}
-use Rattle.icache_top.specs.Answer.{Decides, IsAnswerOf, HasManyBlocks, HasElfFault, HasFlowFault, IsAcceptedWith, IsTextFrom, IsTooMuchFor, AreSameFor, addresses_of, entry_of, file_limit}
+use Rattle.icache_top.specs.Answer.{Decides, IsAnswerOf, HasManyBlocks, HasElfFault, HasFlowFault, IsAcceptedWith, IsTextFrom, IsTooMuchFor, AreSameFor, addresses_of, program_of, file_limit}
 
 -- a file that is read has one image
 one_image : (file : List ℕ) (image other : Image) → image_of file ≡ Ok image → image_of file ≡ Ok other → image ≡ other
@@ -30,13 +31,13 @@ read_and_not : (file : List ℕ) (image : Image) (fault : ElfFault) → image_of
 read_and_not file image fault is fails = absurd (cc (is, fails))
 
 -- two texts that are wanted of a program are the same but for their ways
-text_from : (ask : Ask) (image : Image) (entry : ℕ) (text other : List ℕ)
-    → IsAcceptedWith image entry (λ layers. IsTextFrom ask image entry layers text)
-    → IsAcceptedWith image entry (λ layers. IsTextFrom ask image entry layers other) → AreSameFor ask text other
-text_from (Report ask) image entry text other (layers, accepted, are) (layers', accepted', are') =
-    one_report image entry ask.geometry ask.start ask.contexts text other are.1 are'.1
-text_from Graph image entry text other (layers, accepted, is) (layers', accepted', is') =
-    one_graph_text image entry text other is is'
+text_from : (ask : Ask) (program : Program) (text other : List ℕ)
+    → IsAcceptedWith program (λ layers. IsTextFrom ask program layers text)
+    → IsAcceptedWith program (λ layers. IsTextFrom ask program layers other) → AreSameFor ask text other
+text_from (Report ask) program text other (layers, accepted, are) (layers', accepted', are') =
+    one_report program ask.geometry ask.start ask.contexts text other are.1 are'.1
+text_from (Graph ask) program text other (layers, accepted, is) (layers', accepted', is') =
+    one_graph_text program text other is is'
 
 pub one_text : (settings : Settings) (file text other : List ℕ) → IsAnswerOf settings file text
     → IsAnswerOf settings file other
@@ -44,34 +45,34 @@ pub one_text : (settings : Settings) (file text other : List ℕ) → IsAnswerOf
 one_text settings file text other answer answer' =
     let same : answer'.image ≡ answer.image =
     one_image file answer'.image answer.image answer'.is_image answer.is_image in
-    let Wanted : Image → Type 0 = λ image. IsAcceptedWith image (entry_of settings image)
-    (λ layers. IsTextFrom settings.ask image (entry_of settings image) layers other) in
-    text_from settings.ask answer.image (entry_of settings answer.image) text other answer.text_is
+    let Wanted : Image → Type 0 = λ image. IsAcceptedWith (program_of settings image)
+    (λ layers. IsTextFrom settings.ask (program_of settings image) layers other) in
+    text_from settings.ask (program_of settings answer.image) text other answer.text_is
     (subst Wanted same answer'.text_is)
 
 -- the settings ask for a text of the program, or have too many blocks, and not both
-text_or_many : (ask : Ask) (image : Image) (entry : ℕ) (text : List ℕ) (set count : ℕ)
-    → IsAcceptedWith image entry (λ layers. IsTextFrom ask image entry layers text)
-    → IsAcceptedWith image entry (λ layers. IsTooMuchFor ask layers set count) → ⊥
-text_or_many (Report ask) image entry text set count (layers, accepted, are) (layers', accepted', many) =
+text_or_many : (ask : Ask) (program : Program) (text : List ℕ) (set count : ℕ)
+    → IsAcceptedWith program (λ layers. IsTextFrom ask program layers text)
+    → IsAcceptedWith program (λ layers. IsTooMuchFor ask layers set count) → ⊥
+text_or_many (Report ask) program text set count (layers, accepted, are) (layers', accepted', many) =
     let same : addresses_of layers' ≡ addresses_of layers =
-    ap (λ cs. map (λ (c : Configuration). c.at) cs) (one_numbering (successors image entry) entry image layers' layers
+    ap (λ cs. map fetched cs) (one_numbering (successors program) program layers' layers
     accepted' accepted) in
     few_in_all_many (addresses_of layers) ask.geometry set count are.0
     (subst (λ addresses. HaveMany addresses ask.geometry set count) same many)
-text_or_many Graph image entry text set count (layers, accepted, is) (layers', accepted', many) = many
+text_or_many (Graph ask) program text set count (layers, accepted, is) (layers', accepted', many) = many
 
 -- one set is the first with too many blocks
-one_set : (ask : Ask) (image : Image) (entry set count other number : ℕ)
-    → IsAcceptedWith image entry (λ layers. IsTooMuchFor ask layers set count)
-    → IsAcceptedWith image entry (λ layers. IsTooMuchFor ask layers other number) → (set ≡ other) × (count ≡ number)
-one_set (Report ask) image entry set count other number (layers, accepted, many) (layers', accepted', many') =
+one_set : (ask : Ask) (program : Program) (set count other number : ℕ)
+    → IsAcceptedWith program (λ layers. IsTooMuchFor ask layers set count)
+    → IsAcceptedWith program (λ layers. IsTooMuchFor ask layers other number) → (set ≡ other) × (count ≡ number)
+one_set (Report ask) program set count other number (layers, accepted, many) (layers', accepted', many') =
     let same : addresses_of layers' ≡ addresses_of layers =
-    ap (λ cs. map (λ (c : Configuration). c.at) cs) (one_numbering (successors image entry) entry image layers' layers
+    ap (λ cs. map fetched cs) (one_numbering (successors program) program layers' layers
     accepted' accepted) in
     one_many (addresses_of layers) ask.geometry set count other number many
     (subst (λ addresses. HaveMany addresses ask.geometry other number) same many')
-one_set Graph image entry set count other number (layers, accepted, many) (layers', accepted', many') = absurd many
+one_set (Graph ask) program set count other number (layers, accepted, many) (layers', accepted', many') = absurd many
 
 -- why a file that is within the limit is answered with a status
 abbrev Cause : Settings → List ℕ → Status → Type 0
@@ -110,11 +111,9 @@ module _ (settings : Settings) (file : List ℕ) where
       → ⊥
   answer_flow text fault answer fails =
       let same : fails.image ≡ answer.image = one_image file fails.image answer.image fails.is_image answer.is_image in
-      let Refused : Image → Type 0 = λ image. IsRefused (successors image (entry_of settings image)) image
-      (entry_of settings image) fault in
+      let Refused : Image → Type 0 = λ image. IsRefused (successors (program_of settings image)) (program_of settings image) fault in
       let (layers, accepted, are) = answer.text_is in
-      accepted_refused (successors answer.image (entry_of settings answer.image)) (entry_of settings answer.image)
-      answer.image layers fault accepted
+      accepted_refused (successors (program_of settings answer.image)) (program_of settings answer.image) layers fault accepted
       (subst Refused same fails.refused)
 
   -- nor for its blocks
@@ -122,9 +121,9 @@ module _ (settings : Settings) (file : List ℕ) where
       → ⊥
   answer_many text set count answer many =
       let same : many.image ≡ answer.image = one_image file many.image answer.image many.is_image answer.is_image in
-      let TooMuch : Image → Type 0 = λ image. IsAcceptedWith image (entry_of settings image)
+      let TooMuch : Image → Type 0 = λ image. IsAcceptedWith (program_of settings image)
       (λ layers. IsTooMuchFor settings.ask layers set count) in
-      text_or_many settings.ask answer.image (entry_of settings answer.image) text set count answer.text_is
+      text_or_many settings.ask (program_of settings answer.image) text set count answer.text_is
       (subst TooMuch same many.too_much)
 
   -- a program that is refused has no blocks
@@ -132,10 +131,9 @@ module _ (settings : Settings) (file : List ℕ) where
       → HasManyBlocks settings file set count → ⊥
   flow_many fault set count fails many =
       let same : fails.image ≡ many.image = one_image file fails.image many.image fails.is_image many.is_image in
-      let Refused : Image → Type 0 = λ image. IsRefused (successors image (entry_of settings image)) image
-      (entry_of settings image) fault in
+      let Refused : Image → Type 0 = λ image. IsRefused (successors (program_of settings image)) (program_of settings image) fault in
       let (layers, accepted, too_much) = many.too_much in
-      accepted_refused (successors many.image (entry_of settings many.image)) (entry_of settings many.image) many.image
+      accepted_refused (successors (program_of settings many.image)) (program_of settings many.image)
       layers fault accepted
       (subst Refused same fails.refused)
 
@@ -144,9 +142,8 @@ module _ (settings : Settings) (file : List ℕ) where
       → fault ≡ other
   flow_flow fault other fails fails' =
       let same : fails'.image ≡ fails.image = one_image file fails'.image fails.image fails'.is_image fails.is_image in
-      let Refused : Image → Type 0 = λ image. IsRefused (successors image (entry_of settings image)) image
-      (entry_of settings image) other in
-      one_fault (successors fails.image (entry_of settings fails.image)) (entry_of settings fails.image) fails.image
+      let Refused : Image → Type 0 = λ image. IsRefused (successors (program_of settings image)) (program_of settings image) other in
+      one_fault (successors (program_of settings fails.image)) (program_of settings fails.image)
       fault other fails.refused
       (subst Refused same fails'.refused)
 
@@ -156,9 +153,9 @@ module _ (settings : Settings) (file : List ℕ) where
       → (set ≡ other) × (count ≡ number)
   many_many set count other number many many' =
       let same : many'.image ≡ many.image = one_image file many'.image many.image many'.is_image many.is_image in
-      let TooMuch : Image → Type 0 = λ image. IsAcceptedWith image (entry_of settings image)
+      let TooMuch : Image → Type 0 = λ image. IsAcceptedWith (program_of settings image)
       (λ layers. IsTooMuchFor settings.ask layers other number) in
-      one_set settings.ask many.image (entry_of settings many.image) set count other number many.too_much
+      one_set settings.ask (program_of settings many.image) set count other number many.too_much
       (subst TooMuch same many'.too_much)
 
   -- two causes have one status

@@ -2,10 +2,10 @@
 use Rattle.std.proofs.Common.{◌≡◌, ℕ, List, [], ◌∷◌, length, map, refl, ap, ◌∙◌, sym, subst}
 use Rattle.std.specs.Prelude.{Result, Ok, Err, IfOk, IfErr}
 use Rattle.std.specs.List.{AllZip}
-use Rattle.elf_spec.specs.Image.{Image}
 use Rattle.transition_spec.specs.Layer.{all_of}
 use Rattle.flow_spec.specs.Acceptance.{Step, IsAccepted}
-use Rattle.flow_spec.specs.Configuration.{Configuration}
+use Rattle.flow_spec.specs.Program.{Program}
+use Rattle.flow_spec.specs.Configuration.{Configuration, fetched}
 use Rattle.flow_spec.specs.Successors.{successors}
 use Rattle.path_model.specs.declared.graph.Node.{Node}
 use Rattle.report_spec.specs.declared.line.Verdict.{Verdict}
@@ -18,6 +18,7 @@ use Rattle.node_verdicts.specs.Verdicts.{AreRight, IsFault}
 use Rattle.path_model.specs.Graph.{addresses_of as node_addresses}
 use Rattle.node_verdicts.specs.ViewFault.{ViewFault}
 use Rattle.node_verdicts.specs.ViewFault.TheVariants as faults
+use Rattle.node_spec.specs.Plan.{Layout, layout}
 use Rattle.report_lines.specs.Findings.{IsWithin, AreFindings}
 use Rattle.report_lines.proofs.Made.{report}
 use Rattle.icache_top.specs.Lines.{SendsAll}
@@ -27,13 +28,13 @@ use Rattle.icache_top.proofs.SendsFor.{IsManyFault}
 -- the nodes fetch the addresses of their configurations
 zipped_addresses : (step : Step) (all configurations : List Configuration) (nodes : List Node)
     → AllZip (IsNodeOf step all) configurations nodes
-    → node_addresses nodes ≡ map (λ (c : Configuration). c.at) configurations
+    → node_addresses nodes ≡ map fetched configurations
 zipped_addresses step all [] [] zipped = refl
 zipped_addresses step all [] (node ∷ nodes) zipped = absurd zipped
 zipped_addresses step all (c ∷ configurations) [] zipped = absurd zipped
 zipped_addresses step all (c ∷ configurations) (node ∷ nodes) zipped =
     ap (λ (at : ℕ). at ∷ node_addresses nodes) zipped.0.at
-    ∙ ap (λ (rest : List ℕ). c.at ∷ rest) (zipped_addresses step all configurations nodes zipped.1)
+    ∙ ap (λ (rest : List ℕ). fetched c ∷ rest) (zipped_addresses step all configurations nodes zipped.1)
 
 -- verdicts that were found stay so as a status would be handed on
 pub settled_ok : {V : Type 0} (found : Result V ViewFault) (verdicts : V) → settled_as found ≡ Ok verdicts
@@ -47,20 +48,24 @@ pub ok_at : {V E : Type 0} (P : V → Type 0) (r : Result V E) (value : V) → r
 ok_at P (Ok other) value is holds = let same : other ≡ value = cc is in subst P same holds
 ok_at P (Err error) value is holds = absurd (cc is)
 
-module _ (image : Image) (entry : ℕ) (ask : ReportAsk) (expanded : Expansion)
-    (accepted : (layers : List (List Configuration)) × IsAccepted (successors image entry) image entry layers
+module _ (program : Program) (ask : ReportAsk) (expanded : Expansion)
+    (accepted : (layers : List (List Configuration)) × IsAccepted (successors program) program layers
     × (expanded.configurations ≡ all_of layers))
-    (graph : IsGraphOf (successors image entry) entry expanded.configurations expanded.nodes) where
+    (graph : IsGraphOf (successors program) program.entry expanded.configurations expanded.nodes) where
+  -- the program as it is expanded
+  abbrev on : Layout
+  on = layout program.image program.isa expanded.configurations expanded.nodes
+
   -- the nodes fetch the addresses of the layers
   addresses_same : node_addresses expanded.nodes ≡ addresses_of accepted.0
   addresses_same =
-      zipped_addresses (successors image entry) expanded.configurations expanded.configurations expanded.nodes
+      zipped_addresses (successors program) expanded.configurations expanded.configurations expanded.nodes
       graph.each
-      ∙ ap (λ (cs : List Configuration). map (λ (c : Configuration). c.at) cs) accepted.2
+      ∙ ap (λ (cs : List Configuration). map fetched cs) accepted.2
 
   -- a set has too many blocks
   pub many : (fault : ViewFault) → IsFault expanded.nodes ask.geometry fault
-      → IsManyFault (λ set count. IsAcceptedWith image entry (λ layers. IsTooMuchFor (Report ask) layers set count))
+      → IsManyFault (λ set count. IsAcceptedWith program (λ layers. IsTooMuchFor (Report ask) layers set count))
       fault
   many (faults.TooManyBlocks set count) is = (
     accepted.0,
@@ -70,10 +75,10 @@ module _ (image : Image) (entry : ℕ) (ask : ReportAsk) (expanded : Expansion)
   many faults.OutOfMemory is = tt
 
   -- right verdicts of all nodes are findings
-  pub findings : (nodes : List Node) (verdicts : List Verdict) → nodes ≡ expanded.nodes → IsWithin image
+  pub findings : (nodes : List Node) (verdicts : List Verdict) → nodes ≡ expanded.nodes → IsWithin program.isa program.image
       → length verdicts ≡ length nodes
       → AreRight nodes ask.geometry ask.start verdicts
-      → AreFindings image entry ask.geometry ask.start expanded.configurations expanded.nodes verdicts
+      → AreFindings program ask.geometry ask.start expanded.configurations expanded.nodes verdicts
   findings nodes verdicts same within one_each right = record {
     within = within;
     accepted = accepted;
@@ -84,10 +89,10 @@ module _ (image : Image) (entry : ℕ) (ask : ReportAsk) (expanded : Expansion)
 
   -- all lines are the text that is wanted
   wanted : (verdicts : List Verdict)
-      → AreFindings image entry ask.geometry ask.start expanded.configurations expanded.nodes verdicts
+      → AreFindings program ask.geometry ask.start expanded.configurations expanded.nodes verdicts
       → HaveFewInAll (node_addresses expanded.nodes) ask.geometry → (Sent : List ℕ → Type 0)
-      → SendsAll ask.contexts image expanded verdicts Sent
-      → (text : List ℕ) × IsAcceptedWith image entry (λ layers. IsTextFrom (Report ask) image entry layers text)
+      → SendsAll ask.contexts on verdicts Sent
+      → (text : List ℕ) × IsAcceptedWith program (λ layers. IsTextFrom (Report ask) program layers text)
       × Sent text
   wanted verdicts found few Sent (lines, all, sent) = (
     text_of lines,
@@ -96,7 +101,7 @@ module _ (image : Image) (entry : ℕ) (ask : ReportAsk) (expanded : Expansion)
       accepted.1,
       (
         subst (λ (addresses : List ℕ). HaveFewInAll addresses ask.geometry) addresses_same few,
-        report image entry ask.geometry ask.start expanded.configurations expanded.nodes verdicts found ask.contexts
+        report program ask.geometry ask.start expanded.configurations expanded.nodes verdicts found ask.contexts
             lines all,
       ),
     ),
@@ -107,14 +112,14 @@ module _ (image : Image) (entry : ℕ) (ask : ReportAsk) (expanded : Expansion)
   module _ {V : Type 0} (items : V → List Verdict) (nodes : List Node) (result : Result V ViewFault) (kept : V)
       (now : List Verdict)
       (was : settled_as result ≡ Ok kept) (is_now : now ≡ items kept) (same : nodes ≡ expanded.nodes)
-      (within : IsWithin image)
+      (within : IsWithin program.isa program.image)
       (one_each : IfOk result (λ v. length (items v) ≡ length nodes))
       (right : IfOk result (λ v. AreRight nodes ask.geometry ask.start (items v))) where
     -- its findings are right
-    pub found_now : AreFindings image entry ask.geometry ask.start expanded.configurations expanded.nodes now
+    pub found_now : AreFindings program ask.geometry ask.start expanded.configurations expanded.nodes now
     found_now =
         let found = settled_ok result kept was in
-        subst (λ (vs : List Verdict). AreFindings image entry ask.geometry ask.start expanded.configurations
+        subst (λ (vs : List Verdict). AreFindings program ask.geometry ask.start expanded.configurations
         expanded.nodes vs)
         (sym is_now)
         (findings nodes (items kept) same within (ok_at (λ v. length (items v) ≡ length nodes) result kept found
@@ -123,8 +128,8 @@ module _ (image : Image) (entry : ℕ) (ask : ReportAsk) (expanded : Expansion)
 
     -- and their lines are the text that is wanted
     pub wanted_now : IfOk result (λ v. HaveFewInAll (node_addresses nodes) ask.geometry) → (Sent : List ℕ → Type 0)
-        → SendsAll ask.contexts image expanded now Sent
-        → (text : List ℕ) × IsAcceptedWith image entry (λ layers. IsTextFrom (Report ask) image entry layers text)
+        → SendsAll ask.contexts on now Sent
+        → (text : List ℕ) × IsAcceptedWith program (λ layers. IsTextFrom (Report ask) program layers text)
         × Sent text
     wanted_now few =
         let few_now = ok_at (λ v. HaveFewInAll (node_addresses nodes) ask.geometry) result kept

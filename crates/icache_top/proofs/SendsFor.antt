@@ -16,7 +16,7 @@ use Rattle.byte_port.specs.declared.SinkFault.TheVariants as sinks
 use Rattle.top_words.specs.declared.status.Status.{Status}
 use Rattle.top_words.specs.declared.status.Status.TheVariants.{Done, Usage, OutOfMemory, ReadFault, WriteFault, FileTooBig, Elf, Flow, TooManyBlocks}
 use Rattle.top_words.specs.Status.{of_elf, of_flow, of_sink}
-use Rattle.icache_top.specs.Answer.{SendsFor, Tells, SaysOfProgram, entry_of, settled_as, status_of}
+use Rattle.icache_top.specs.Answer.{SendsFor, Tells, SaysOfProgram, program_for, program_of, entry_of, settled_as, status_of}
 
 status_is : (r : Result (Unit {0}) Status) (status : Status) → IsErrAnd r (λ s. s ≡ status) → status_of r ≡ status
 status_is (Ok done) status h = absurd h
@@ -124,7 +124,7 @@ handed_on Refused HasMany IsWanted s status r gives reported =
 
 at_entry : (settings : Settings) (file : List ℕ) (image : Image) (status : Status) (old new : Option (List ℕ))
     → image_of file ≡ Ok image
-    → SaysOfProgram settings.ask image (entry_of settings image) status old new → Tells settings file status old new
+    → SaysOfProgram settings.ask (program_of settings image) status old new → Tells settings file status old new
 at_entry settings file image Done old new is (text, wanted, sent) =
     (text, record { image = image; is_image = is; text_is = wanted }, sent)
 at_entry settings file image WriteFault old new is (text, wanted, sent) =
@@ -144,8 +144,9 @@ at_entry settings file image (Elf fault) old new is reported = absurd reported
 -- what a status says of the program of a file
 pub program_reported : (settings : Settings) (file : List ℕ) (image : Image) (entry : ℕ) (status : Status)
     (old new : Option (List ℕ))
-    → image_of file ≡ Ok image → entry ≡ entry_of settings image → SaysOfProgram settings.ask image entry status old new
+    → image_of file ≡ Ok image → entry ≡ entry_of settings image
+    → SaysOfProgram settings.ask (program_for settings.ask image entry) status old new
     → Tells settings file status old new
 program_reported settings file image entry status old new is same reported =
     at_entry settings file image status old new is (subst
-    (λ (entry : ℕ). SaysOfProgram settings.ask image entry status old new) same reported)
+    (λ (entry : ℕ). SaysOfProgram settings.ask (program_for settings.ask image entry) status old new) same reported)

@@ -1,21 +1,21 @@
 -- A report's text, line after line.
 use Rattle.std.proofs.Common.{◌≡◌, ℕ, List, [], ◌∷◌, ◌++◌, refl, sym, ap, subst, ◌∙◌, append-nil, append_assoc, inl, inr, arith}
-use Rattle.std.specs.Prelude.{Bool, true, Option, Some, None, Result, Ok, Err, OnErr}
+use Rattle.std.specs.Prelude.{Bool, true, false, Option, Some, None, Result, Ok, Err, OnErr}
 use Rattle.std.specs.List.{list_all}
-use Rattle.elf_spec.specs.Image.{Image}
+use Rattle.flow_spec.specs.Program.{program}
 use Rattle.byte_port.specs.Stream.{SendsPrefix}
 use Rattle.line_sender.specs.Pending.{Pending}
 use Rattle.line_sender.proofs.Pending.{Pending-line, Pending-trans, SendsPrefix-line, SendsPrefix-more, SendsPrefix-none, SendsPrefix-pending}
 use Rattle.line_sender.proofs.Text.{text_of-append}
-use Rattle.call_expand.specs.Expansion.{Expansion}
+use Rattle.node_spec.specs.Plan.{Layout, IsByAddress, IsByNumber}
 use Rattle.report_spec.specs.declared.line.Line.{Line}
 use Rattle.report_spec.specs.declared.line.Verdict.{Verdict}
 use Rattle.report_spec.specs.Text.{line_text, text_of}
-use Rattle.report_lines.specs.Lines.{AreAllFrom, AreAllBefore}
+use Rattle.report_lines.specs.Lines.{Stands, AreAllFrom, AreAllBefore}
 use Rattle.report_spec.specs.Valid.{is_valid_verdict}
 use Rattle.report_lines.proofs.Made.{rest}
 use Rattle.report_lines.proofs.Valid.{right_valid}
-use Rattle.icache_top.specs.Lines.{AreFound, StandsAt, SendsAll, SendsNext, SendsPart}
+use Rattle.icache_top.specs.Lines.{AreFound, SendsAll, SendsNext, SendsPart}
 
 line_after : (head : List Line) (line : Line) → text_of head ++ line_text line ≡ text_of (head ++ line ∷ [])
 line_after head line =
@@ -54,21 +54,20 @@ module _ (At : ℕ → Option (Line × Option ℕ) → Type 0) where
         (Pending-line a b c buffer left (text_of head) (line_text line) pending sent),
   )
 
-module _ (contexts : Bool) (image : Image) (expanded : Expansion) (verdicts : List Verdict)
-    (found : AreFound image expanded verdicts) where
+module _ (contexts : Bool) (on : Layout) (verdicts : List Verdict) (found : AreFound on verdicts) where
   abbrev At : ℕ → Option (Line × Option ℕ) → Type 0
-  At = StandsAt contexts image expanded verdicts
+  At = Stands contexts on verdicts
 
   -- there are lines from each cursor on
   there : (cursor : Option ℕ) → (lines : List Line) × AreAllFrom At cursor lines
   there cursor =
-      let (entry, g, start, findings) = found in
-      rest image entry g start expanded.configurations expanded.nodes verdicts findings contexts cursor
+      let (line, entry, g, start, findings) = found in
+      rest (program on.image on.isa line entry) g start on.configurations on.nodes verdicts findings contexts cursor
 
   -- a prefix of what stands before a cursor was sent
   part_before : (a c : Option (List ℕ)) (head : List Line) (cursor : Option ℕ) → AreAllBefore At cursor head
       → SendsPrefix a c (text_of head)
-      → SendsAll contexts image expanded verdicts (SendsPrefix a c)
+      → SendsAll contexts on verdicts (SendsPrefix a c)
   part_before a c head cursor before part =
       let (lines, all) = there cursor in (
         head ++ lines,
@@ -80,7 +79,7 @@ module _ (contexts : Bool) (image : Image) (expanded : Expansion) (verdicts : Li
   -- a prefix of the lines so far was sent
   pub part_sent : (a b c : Option (List ℕ)) (buffer : List ℕ) (from : ℕ)
       → (head : List Line) × AreAllBefore At (Some from) head × Pending a b buffer (text_of head)
-      → SendsPart At from (SendsPrefix b c) buffer → SendsAll contexts image expanded verdicts (SendsPrefix a c)
+      → SendsPart At from (SendsPrefix b c) buffer → SendsAll contexts on verdicts (SendsPrefix a c)
   part_sent a b c buffer from (head, before, pending) (inl part) =
       part_before a c head (Some from) before (SendsPrefix-pending a b c buffer (text_of head) pending part)
   part_sent a b c buffer from (head, before, pending) (inr (line, next, at, part)) =
@@ -89,14 +88,21 @@ module _ (contexts : Bool) (image : Image) (expanded : Expansion) (verdicts : Li
       pending part))
 
   -- nothing was sent
-  pub none_sent : (a : Option (List ℕ)) → SendsAll contexts image expanded verdicts (SendsPrefix a a)
+  pub none_sent : (a : Option (List ℕ)) → SendsAll contexts on verdicts (SendsPrefix a a)
   none_sent a = let (lines, all) = there (Some 0) in (lines, all, SendsPrefix-none a (text_of lines))
 
 -- the verdicts that were found are valid
-pub found_valid : (image : Image) (expanded : Expansion) (verdicts : List Verdict) → AreFound image expanded verdicts
+pub found_valid : (on : Layout) (verdicts : List Verdict) → AreFound on verdicts
     → list_all is_valid_verdict verdicts ≡ true
-found_valid image expanded verdicts (entry, g, start, found) =
-    right_valid expanded.nodes g start verdicts (λ n below. found.right n (omega (arith, below, found.one_each)))
+found_valid on verdicts (line, entry, g, start, found) =
+    right_valid on.nodes g start verdicts (λ n below. found.right n (omega (arith, below, found.one_each)))
+
+-- which line stands at a cursor, either way
+pub stands : (contexts : Bool) (on : Layout) (verdicts : List Verdict) (from : ℕ) (at : Option (Line × Option ℕ))
+    → (contexts ≡ false → IsByAddress on verdicts from at)
+    → (contexts ≡ true → IsByNumber on.configurations verdicts from at) → Stands contexts on verdicts from at
+stands true on verdicts from at by_address by_number = by_number refl
+stands false on verdicts from at by_address by_number = by_address refl
 
 -- what holds anyway holds of an error
 pub err_of : {V E : Type 0} {P : Type 0} (r : Result V E) → P → OnErr r P

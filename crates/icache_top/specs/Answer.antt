@@ -13,7 +13,8 @@ use Rattle.elf_spec.specs.declared.fault.ElfFault.{ElfFault}
 use Rattle.transition_spec.specs.Layer.{all_of}
 use Rattle.cache_spec.specs.Blocks.{HaveFewInAll, HaveMany}
 use Rattle.flow_spec.specs.declared.fault.FlowFault.{FlowFault}
-use Rattle.flow_spec.specs.Configuration.{Configuration}
+use Rattle.flow_spec.specs.Program.{Program, program}
+use Rattle.flow_spec.specs.Configuration.{Configuration, fetched}
 use Rattle.flow_spec.specs.Acceptance.{IsAccepted, IsRefused}
 use Rattle.flow_spec.specs.Successors.{successors}
 use Rattle.report_spec.specs.Report.{IsReport}
@@ -40,39 +41,47 @@ Reads left now file = Consumes left now file × IsAtEnd now × (length file ≤ 
 abbrev pub entry_of : Settings → Image → ℕ
 entry_of settings image = unwrap_or settings.entry image.entry
 
+-- the program that is asked about, with its instructions and lines
+abbrev pub program_for : Ask → Image → ℕ → Program
+program_for (Report ask) image entry = program image ask.isa ask.geometry.line entry
+program_for (Graph ask) image entry = program image ask.isa ask.line entry
+
+abbrev pub program_of : Settings → Image → Program
+program_of settings image = program_for settings.ask image (entry_of settings image)
+
 -- the addresses that the configurations of these layers fetch
 abbrev pub addresses_of : List (List Configuration) → List ℕ
-addresses_of layers = map (λ (c : Configuration). c.at) (all_of layers)
+addresses_of layers = map fetched (all_of layers)
 
 -- the text that is asked for, of a program with these layers: a report, where no set has too many fetched blocks, or the
 -- text of the graph
-abbrev pub IsTextFrom : Ask → Image → ℕ → List (List Configuration) → List ℕ → Type 0
-IsTextFrom (Report ask) image entry layers text =
-    HaveFewInAll (addresses_of layers) ask.geometry × IsReport image entry ask.geometry ask.start ask.contexts text
-IsTextFrom Graph image entry layers text = IsGraphText image entry text
+abbrev pub IsTextFrom : Ask → Program → List (List Configuration) → List ℕ → Type 0
+IsTextFrom (Report ask) program layers text =
+    HaveFewInAll (addresses_of layers) ask.geometry × IsReport program ask.geometry ask.start ask.contexts text
+IsTextFrom (Graph ask) program layers text = IsGraphText program text
 
 -- a set has too many fetched blocks for what is asked for: the first such one, and this many
 abbrev pub IsTooMuchFor : Ask → List (List Configuration) → ℕ → ℕ → Type 0
 IsTooMuchFor (Report ask) layers set count = HaveMany (addresses_of layers) ask.geometry set count
-IsTooMuchFor Graph layers set count = ⊥
+IsTooMuchFor (Graph ask) layers set count = ⊥
 
 -- the program is accepted with its layers, and they are such
-abbrev pub IsAcceptedWith : Image → ℕ → (List (List Configuration) → Type 0) → Type 0
-IsAcceptedWith image entry IsSuch =
-    (layers : List (List Configuration)) × IsAccepted (successors image entry) image entry layers × IsSuch layers
+abbrev pub IsAcceptedWith : Program → (List (List Configuration) → Type 0) → Type 0
+IsAcceptedWith program IsSuch =
+    (layers : List (List Configuration)) × IsAccepted (successors program) program layers × IsSuch layers
 
 -- the file is read, and the text is what is asked for of its program
 pub record IsAnswerOf (settings : Settings) (file text : List ℕ) : Type 0 where
   pub image : Image
   pub is_image : image_of file ≡ Ok image
-  pub text_is : IsAcceptedWith image (entry_of settings image)
-      (λ layers. IsTextFrom settings.ask image (entry_of settings image) layers text)
+  pub text_is : IsAcceptedWith (program_of settings image)
+      (λ layers. IsTextFrom settings.ask (program_of settings image) layers text)
 
 -- the file is read, and the first set of its program with too many fetched blocks is this one, with `count` of them
 pub record HasManyBlocks (settings : Settings) (file : List ℕ) (set count : ℕ) : Type 0 where
   pub image : Image
   pub is_image : image_of file ≡ Ok image
-  pub too_much : IsAcceptedWith image (entry_of settings image) (λ layers. IsTooMuchFor settings.ask layers set count)
+  pub too_much : IsAcceptedWith (program_of settings image) (λ layers. IsTooMuchFor settings.ask layers set count)
 
 -- the file isn't read as an executable, and this is why: the answer of the first test that fails
 abbrev pub HasElfFault : List ℕ → ElfFault → Type 0
@@ -82,7 +91,7 @@ HasElfFault file fault = image_of file ≡ Err fault
 pub record HasFlowFault (settings : Settings) (file : List ℕ) (fault : FlowFault) : Type 0 where
   pub image : Image
   pub is_image : image_of file ≡ Ok image
-  pub refused : IsRefused (successors image (entry_of settings image)) image (entry_of settings image) fault
+  pub refused : IsRefused (successors (program_of settings image)) (program_of settings image) fault
 
 -- what a status says of a program that is refused with a fault, that has too many blocks in a set, or of which a text is
 -- wanted, and of what the sink got
@@ -99,12 +108,12 @@ SendsFor Refused HasMany IsWanted ReadFault old new = ⊥
 SendsFor Refused HasMany IsWanted FileTooBig old new = ⊥
 SendsFor Refused HasMany IsWanted (Elf fault) old new = ⊥
 
--- what a status says of the program that begins at the entry, and of what the sink got
-abbrev pub SaysOfProgram : Ask → Image → ℕ → Status → Option (List ℕ) → Option (List ℕ) → Type 0
-SaysOfProgram ask image entry =
-    SendsFor (IsRefused (successors image entry) image entry)
-    (λ set count. IsAcceptedWith image entry (λ layers. IsTooMuchFor ask layers set count))
-    (λ text. IsAcceptedWith image entry (λ layers. IsTextFrom ask image entry layers text))
+-- what a status says of a program, and of what the sink got
+abbrev pub SaysOfProgram : Ask → Program → Status → Option (List ℕ) → Option (List ℕ) → Type 0
+SaysOfProgram ask program =
+    SendsFor (IsRefused (successors program) program)
+    (λ set count. IsAcceptedWith program (λ layers. IsTooMuchFor ask layers set count))
+    (λ text. IsAcceptedWith program (λ layers. IsTextFrom ask program layers text))
 
 -- what a status says of the file that was read, and of what the sink got
 abbrev pub Tells : Settings → List ℕ → Status → Option (List ℕ) → Option (List ℕ) → Type 0
@@ -162,7 +171,7 @@ Decides words file status old new = SaysOf words file status old new
 -- two texts are the same but for what is free in them: the ways of a report's unknown lines
 abbrev pub AreSameFor : Ask → List ℕ → List ℕ → Type 0
 AreSameFor (Report ask) text other = AreAlikeTexts text other
-AreSameFor Graph text other = text ≡ other
+AreSameFor (Graph ask) text other = text ≡ other
 
 -- the verdicts of nodes or why there are none, as a status
 abbrev pub settled_as : {V : Type 0} → Result V ViewFault → Result V Status

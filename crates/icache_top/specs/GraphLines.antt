@@ -11,7 +11,7 @@ use Rattle.call_expand.specs.Expansion.{Expansion}
 abbrev pub graph_line : ℕ → Configuration → Node → GraphLine
 graph_line number c node = record {
   node = number;
-  at = c.at;
+  at = node.at;
   depth = length c.frames;
   back = option_map (λ frame. frame.back) (newest c.frames);
   next = node.first;

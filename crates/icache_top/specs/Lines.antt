@@ -1,44 +1,45 @@
 -- The lines of a report as they are sent, one after another.
 use Rattle.std.specs.Prelude.{◌≡◌, ◌⊎◌, ℕ, ◌-◌, ◌^◌, Bool, List, ◌++◌, Option, Some, None}
 use Rattle.byte_port.specs.declared.Sink.{Ghosts}
-use Rattle.elf_spec.specs.Image.{Image}
+use Rattle.flow_spec.specs.Program.{program}
 use Rattle.cache_spec.specs.Geometry.{Geometry}
 use Rattle.cache_spec.specs.declared.start.Start.{Start}
-use Rattle.call_expand.specs.Expansion.{Expansion}
 use Rattle.report_spec.specs.declared.line.Line.{Line}
 use Rattle.report_spec.specs.declared.line.Verdict.{Verdict}
 use Rattle.report_spec.specs.Text.{text_of, line_text}
 use Rattle.line_sender.specs.Pending.{IsPending}
+use Rattle.node_spec.specs.Plan.{Layout, layout}
 use Rattle.report_lines.specs.Findings.{AreFindings}
 use Rattle.icache_top.specs.declared.report.Findings.{Findings}
 use Rattle.report_lines.specs.Lines.{Stands, AreAllBefore, AreAllFrom}
 
--- the verdicts are right of an expanded program
-abbrev pub AreFound : Image → Expansion → List Verdict → Type 0
-AreFound image expanded verdicts =
-    (entry : ℕ) × (g : Geometry) × (start : Start) × AreFindings image entry g start expanded.configurations
-    expanded.nodes verdicts
-
--- which line stands at a cursor
-abbrev pub StandsAt : Bool → Image → Expansion → List Verdict → ℕ → Option (Line × Option ℕ) → Type 0
-StandsAt contexts image expanded verdicts = Stands contexts image expanded.configurations expanded.nodes verdicts
+-- the verdicts are right of an expanded program, for some size of its lines and some entry
+abbrev pub AreFound : Layout → List Verdict → Type 0
+AreFound layout verdicts =
+    (line : ℕ) × (entry : ℕ) × (g : Geometry) × (start : Start)
+    × AreFindings (program layout.image layout.isa line entry) g start layout.configurations layout.nodes verdicts
 
 -- the lines are all those of the program, and their text was sent
-abbrev pub SendsAll : Bool → Image → Expansion → List Verdict → (List ℕ → Type 0) → Type 0
-SendsAll contexts image expanded verdicts Sent =
-    (lines : List Line) × AreAllFrom (StandsAt contexts image expanded verdicts) (Some 0) lines × Sent (text_of lines)
+abbrev pub SendsAll : Bool → Layout → List Verdict → (List ℕ → Type 0) → Type 0
+SendsAll contexts layout verdicts Sent =
+    (lines : List Line) × AreAllFrom (Stands contexts layout verdicts) (Some 0) lines × Sent (text_of lines)
+
+-- the expanded program of what was found
+abbrev pub layout_of : Findings → Layout
+layout_of found =
+    layout found.image.now found.isa found.expanded.now.configurations found.expanded.now.nodes
 
 -- the verdicts of what was found are right
 abbrev pub HaveFound : Findings → Type 0
-HaveFound found = AreFound found.image.now found.expanded.now found.verdicts.now
+HaveFound found = AreFound (layout_of found) found.verdicts.now
 
 -- which line stands at a cursor, by what was found
 abbrev pub StandsIn : Bool → Findings → ℕ → Option (Line × Option ℕ) → Type 0
-StandsIn contexts found = StandsAt contexts found.image.now found.expanded.now found.verdicts.now
+StandsIn contexts found = Stands contexts (layout_of found) found.verdicts.now
 
 -- the lines are all those of what was found, and their text was sent
 abbrev pub SendsReport : Bool → Findings → (List ℕ → Type 0) → Type 0
-SendsReport contexts found = SendsAll contexts found.image.now found.expanded.now found.verdicts.now
+SendsReport contexts found = SendsAll contexts (layout_of found) found.verdicts.now
 
 -- since the sink was as it was then, the lines before a cursor were sent, or stand in the buffer
 abbrev pub SentBefore : {O : Type 0} → Ghosts O → Bool → Findings → O → O → List ℕ → Option ℕ → Type 0

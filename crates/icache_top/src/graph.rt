@@ -38,13 +38,13 @@ fn line_of(expanded: &Expanded, node: u32) -> GraphLine
     ensures { slice_get (graph_lines_of expanded.now) node ≡ Some result }
 {
     let config = expanded.config(node);
-    let edges = expanded.graph().nodes()[node as usize];
+    let fetch = expanded.graph().nodes()[node as usize];
     GraphLine {
         node,
-        at: config.at,
+        at: fetch.at,
         depth: config.depth,
         back: expanded.top(node).map(|frame| frame.back),
-        next: edges.first,
-        taken: edges.second,
+        next: fetch.first,
+        taken: fetch.second,
     }
 }

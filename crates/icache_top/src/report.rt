@@ -7,17 +7,19 @@ ghost use Rattle.report_plan.specs.Kept.{IsPlanOf};
 ghost use Rattle.icache_top.specs.Lines.{HaveFound, SendsNext, SendsPart, SendsReport, StandsIn, left_from};
 
 use byte_port::{Sink, SinkFault};
-use call_expand::Expanded;
+use call_expand::{Expanded, Isa};
 use elf_image::Image;
 use line_sender::{PIECE, finish, send_line};
 use report_plan::Plan;
 use std::alloc::Global;
 use verdict_report::Verdict;
 
-/// What was found of an accepted program: its configurations as a graph, and the verdict of each.
+/// What was found of an accepted program, whose instructions are those of `isa`: its configurations as a graph, and the
+/// verdict of each.
 #[derive(Clone, Copy)]
 pub(crate) struct Findings<'p> {
     pub(crate) image: &'p Image,
+    pub(crate) isa: Isa,
     pub(crate) expanded: &'p Expanded,
     pub(crate) verdicts: &'p [Verdict],
 }
@@ -69,10 +71,11 @@ fn send_from<O: Sink>(
 {
     let Findings {
         image,
+        isa,
         expanded,
         verdicts,
     } = found;
-    match plan.line(alloc, image, expanded, verdicts, contexts, from)? {
+    match plan.line(alloc, image, *isa, expanded, verdicts, contexts, from)? {
         None => Ok(None),
         Some((line, next)) => {
             send_line(out, buffer, &line)?;

@@ -9,6 +9,7 @@ use std::process::Abort;
 use std::test::Fail;
 use std::thread::Threads;
 
+mod compressed;
 mod graphs;
 mod hostile;
 mod reports;
@@ -23,8 +24,8 @@ const START: [u8; 68] = [
 const FLAGS: [u8; 8] = [5, 0, 0, 0, 4, 0, 0, 0];
 
 const USAGE: &str = "icache: usage
-  icache classify [--line N] [--sets N] [--ways N] [--workers N] [--nodes N] [--entry 0xN] [--contexts] [--start empty|any]
-  icache graph [--entry 0xN]
+  icache classify [--line N] [--sets N] [--ways N] [--workers N] [--nodes N] [--entry 0xN] [--contexts] [--start empty|any] [--isa rv32i|rv32ic]
+  icache graph [--entry 0xN] [--line N] [--isa rv32i|rv32ic]
   icache sample --number N [--size N] [--line N] [--sets N] [--ways N] [--workers N] [--nodes N]
 ";
 

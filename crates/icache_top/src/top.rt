@@ -1,19 +1,19 @@
-ghost use Rattle.std.specs.Prelude.{◌≡◌, ◌≢◌, ◌↔◌, ℕ, ◌≤◌, List, [], Some, IsNone, IsSome, IfSome, IfErr, length};
+ghost use Rattle.std.specs.Prelude.{◌≡◌, ◌≢◌, ◌↔◌, ℕ, ◌<◌, ◌≤◌, List, [], Some, IsNone, IsSome, IfSome, IfErr, length};
 ghost use Rattle.byte_port.specs.Count.{Rose};
 ghost use Rattle.byte_port.specs.Sent.{Reports};
-ghost use Rattle.command_spec.specs.Settings.{settings_of};
+ghost use Rattle.command_spec.specs.Settings.{settings_of, HasGraphLine};
 ghost use Rattle.top_words.specs.Views.{bytes_of};
 ghost use Rattle.top_words.specs.FaultText.{fault_text};
 ghost use Rattle.top_words.specs.Status.{KeepsMemoryApart};
 ghost use Rattle.report_lines.specs.Findings.{IsWithin};
-ghost use Rattle.icache_top.specs.Answer.{Answers, CountsOut, CountsOutRefusals, CountsSource, Decides, ReadsFor, SaysOf, SaysOfProgram, Tells, WritesFor, settled_as, status_of, file_limit};
+ghost use Rattle.icache_top.specs.Answer.{Answers, CountsOut, CountsOutRefusals, CountsSource, Decides, ReadsFor, SaysOf, SaysOfProgram, Tells, WritesFor, program_for, settled_as, status_of, file_limit};
 
 use crate::graph::send_graph;
 use crate::report::{Findings, send_report};
 use crate::{Gate, Jobs, NodeWords, Outcome, Status};
 use byte_port::{Sink, Source, read_all};
 use call_expand::expand;
-use command_spec::{Ask, ReportAsk, Settings};
+use command_spec::{Ask, GraphAsk, ReportAsk, Settings};
 use elf_image::Image;
 use node_verdicts::{ViewFault, node_verdicts};
 use std::alloc::Global;
@@ -117,7 +117,8 @@ fn answer_file<O: Sink>(
     settings: &Settings,
     out: &mut O,
 ) -> Result<(), Status>
-    requires { length file.items ≤ file_limit }
+    requires limit { length file.items ≤ file_limit }
+    requires line { HasGraphLine settings.now.ask }
     ensures not_done { IfErr result (λ status. status ≢ Status.Done) }
     ensures reported { Tells settings.now file.items (status_of result) (O.sent out.old) (O.sent out.new) }
     ensures writes { CountsOut (status_of result) (O.faults out.old) (O.faults out.new) }
@@ -129,7 +130,7 @@ fn answer_file<O: Sink>(
     let entry = settings.entry.unwrap_or(image.entry());
     match &settings.ask {
         Ask::Report(ask) => classify(alloc, out, &image, entry, ask),
-        Ask::Graph => graph(alloc, out, &image, entry),
+        Ask::Graph(ask) => graph(alloc, out, &image, entry, ask),
     }
 }
 
@@ -141,18 +142,19 @@ fn classify<O: Sink>(
     entry: u32,
     ask: &ReportAsk,
 ) -> Result<(), Status>
-    requires { IsWithin image.now }
+    requires { IsWithin ask.now.isa image.now }
     ensures not_done { IfErr result (λ status. status ≢ Status.Done) }
-    ensures reported { SaysOfProgram (Ask.Report ask.now) image.now entry (status_of result) (O.sent out.old) (O.sent out.new) }
+    ensures reported { SaysOfProgram (Ask.Report ask.now) (program_for (Ask.Report ask.now) image.now entry) (status_of result) (O.sent out.old) (O.sent out.new) }
     ensures writes { CountsOut (status_of result) (O.faults out.old) (O.faults out.new) }
     ensures refusals { CountsOutRefusals (status_of result) (O.refusals out.old) (O.refusals out.new) }
     ensures writing { WritesFor O.writes (status_of result) out.old out.new }
     ensures memory { KeepsMemoryApart (status_of result) }
 {
-    let expanded = expand(alloc, image, entry)?;
+    let expanded = expand(alloc, image, entry, ask.isa, ask.geometry.line())?;
     let verdicts = settled(node_verdicts(alloc, expanded.graph(), &ask.geometry, ask.start))?;
     let found = Findings {
         image,
+        isa: ask.isa,
         expanded: &expanded,
         verdicts: &verdicts,
     };
@@ -161,15 +163,22 @@ fn classify<O: Sink>(
 }
 
 /// Sends the text of a program's graph.
-fn graph<O: Sink>(alloc: Global, out: &mut O, image: &Image, entry: u32) -> Result<(), Status>
+fn graph<O: Sink>(
+    alloc: Global,
+    out: &mut O,
+    image: &Image,
+    entry: u32,
+    ask: &GraphAsk,
+) -> Result<(), Status>
+    requires { 0 < ask.now.line }
     ensures not_done { IfErr result (λ status. status ≢ Status.Done) }
-    ensures reported { SaysOfProgram Ask.Graph image.now entry (status_of result) (O.sent out.old) (O.sent out.new) }
+    ensures reported { SaysOfProgram (Ask.Graph ask.now) (program_for (Ask.Graph ask.now) image.now entry) (status_of result) (O.sent out.old) (O.sent out.new) }
     ensures writes { CountsOut (status_of result) (O.faults out.old) (O.faults out.new) }
     ensures refusals { CountsOutRefusals (status_of result) (O.refusals out.old) (O.refusals out.new) }
     ensures writing { WritesFor O.writes (status_of result) out.old out.new }
     ensures memory { KeepsMemoryApart (status_of result) }
 {
-    let expanded = expand(alloc, image, entry)?;
+    let expanded = expand(alloc, image, entry, ask.isa, ask.line)?;
     send_graph(alloc, out, &expanded)?;
     Ok(())
 }

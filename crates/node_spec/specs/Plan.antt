@@ -2,11 +2,14 @@
 use Rattle.std.specs.Prelude.{◌≡◌, ℕ, ◌+◌, ◌<◌, ◌≤◌, nat_lt, Bool, true, false, IsTrue, IsFalse, if◌then◌else◌, List, ◌∷◌, length, Option, Some, None, Contains, option_map, slice_get}
 use Rattle.std.specs.List.{AllByRecursion}
 use Rattle.elf_spec.specs.Image.{Image}
-use Rattle.elf_spec.specs.Word.{IsText, IsNextText}
 use Rattle.transition_spec.specs.declared.way.Way.{Way}
 use Rattle.transition_spec.specs.Path.{IsPath}
 use Rattle.transition_spec.specs.Named.{Names}
-use Rattle.flow_spec.specs.Configuration.{Configuration}
+use Rattle.riscv_spec.specs.declared.parcel.Isa.{Isa}
+use Rattle.flow_spec.specs.declared.frame.Frame.{Frame}
+use Rattle.flow_spec.specs.declared.instruction.Instruction.TheVariants.{Word}
+use Rattle.flow_spec.specs.Configuration.{Configuration, configuration, fetched}
+use Rattle.flow_spec.specs.Instruction.{IsText, instruction_at}
 use Rattle.flow_spec.specs.Successors.{newest}
 use Rattle.path_model.specs.declared.graph.Node.{Node}
 use Rattle.path_model.specs.Graph.{graph_step, address_of}
@@ -14,7 +17,19 @@ use Rattle.report_spec.specs.declared.line.Line.{Line}
 use Rattle.report_spec.specs.declared.line.Line.TheVariants.{At, Context, Unreachable}
 use Rattle.report_spec.specs.declared.line.Verdict.{Verdict}
 use Rattle.report_spec.specs.declared.line.Verdict.TheVariants.{AlwaysHit, AlwaysMiss, Unknown}
+use Rattle.report_spec.specs.Inner.{step_of}
 use Rattle.report_spec.specs.Report.{range_addresses}
+
+-- an expanded program: its text, its configurations, and the nodes with their numbers
+pub record Layout : Type 0 where
+  pub image : Image
+  pub isa : Isa
+  pub configurations : List Configuration
+  pub nodes : List Node
+
+abbrev pub layout : Image → Isa → List Configuration → List Node → Layout
+layout image isa configurations nodes =
+    record { image = image; isa = isa; configurations = configurations; nodes = nodes }
 
 -- a node is at the address
 pub record IsNodeAt (nodes : List Node) (address n : ℕ) : Type 0 where
@@ -53,22 +68,49 @@ IsMerged nodes verdicts address AlwaysMiss = AllHave nodes verdicts address Alwa
 IsMerged nodes verdicts address (Unknown hit miss) =
     IsWayAt nodes verdicts address true hit × IsWayAt nodes verdicts address false miss
 
--- a word of the text at which there is no node
-pub record IsBare (image : Image) (nodes : List Node) (address : ℕ) : Type 0 where
-  pub text : IsText image address
-  pub bare : (n : ℕ) → IsNodeAt nodes address n → ⊥
+-- no node is at the address
+abbrev pub IsBareOf : List Node → ℕ → Type 0
+IsBareOf nodes address = (n : ℕ) → IsNodeAt nodes address n → ⊥
 
--- a range of such words that doesn't go on after its last
-pub record IsBareRange (image : Image) (nodes : List Node) (first last : ℕ) : Type 0 where
-  pub ends : Contains (range_addresses first last) last
-  pub words : AllByRecursion (IsBare image nodes) (range_addresses first last)
-  pub greatest : IsBare image nodes (last + 4) → ⊥
+-- a configuration fetches the first part of the instruction at the address
+abbrev pub IsBegun : List Configuration → ℕ → Type 0
+IsBegun configurations address = (frames : List Frame) × Contains configurations (configuration frames address)
 
--- the line that begins at a word of the text
-abbrev pub IsLineAt : Image → List Node → List Verdict → ℕ → Line → Type 0
-IsLineAt image nodes verdicts address (At at verdict) = (at ≡ address) × IsMerged nodes verdicts address verdict
-IsLineAt image nodes verdicts address (Unreachable first last) = (first ≡ address) × IsBareRange image nodes first last
-IsLineAt image nodes verdicts address (Context node at depth back verdict) = ⊥
+-- the address is in the text, no node is at it, and two bytes before it an instruction of four bytes is begun
+pub record IsInnerIn (layout : Layout) (address : ℕ) : Type 0 where
+  pub text : IsText layout.isa layout.image address
+  pub bare : IsBareOf layout.nodes address
+  pub begins : ℕ
+  pub middle : begins + 2 ≡ address
+  pub four_bytes : (code : ℕ) × (instruction_at layout.isa layout.image begins ≡ Some (Word code))
+  pub begun : IsBegun layout.configurations begins
+
+-- the address is in the text and isn't inner
+abbrev pub HasLineIn : Layout → ℕ → Type 0
+HasLineIn layout address = IsText layout.isa layout.image address × (IsInnerIn layout address → ⊥)
+
+-- the least such address at or above one, or none where none is left
+abbrev pub IsNextLine : Layout → ℕ → Option ℕ → Type 0
+IsNextLine layout from None = (address : ℕ) → from ≤ address → HasLineIn layout address → ⊥
+IsNextLine layout from (Some found) =
+    HasLineIn layout found × (from ≤ found) × ((address : ℕ) → from ≤ address → HasLineIn layout address → found ≤ address)
+
+-- an address with a line, at which there is no node
+pub record IsBare (layout : Layout) (address : ℕ) : Type 0 where
+  pub line : HasLineIn layout address
+  pub bare : IsBareOf layout.nodes address
+
+-- a range of such addresses that doesn't go on after its last
+pub record IsBareRange (layout : Layout) (first last : ℕ) : Type 0 where
+  pub ends : Contains (range_addresses (step_of layout.isa) first last) last
+  pub bare : AllByRecursion (IsBare layout) (range_addresses (step_of layout.isa) first last)
+  pub greatest : IsBare layout (last + step_of layout.isa) → ⊥
+
+-- the line that begins at an address
+abbrev pub IsLineAt : Layout → List Verdict → ℕ → Line → Type 0
+IsLineAt layout verdicts address (At at verdict) = (at ≡ address) × IsMerged layout.nodes verdicts address verdict
+IsLineAt layout verdicts address (Unreachable first last) = (first ≡ address) × IsBareRange layout first last
+IsLineAt layout verdicts address (Context node at depth back verdict) = ⊥
 
 -- the last address that a line speaks of
 abbrev pub last_of : Line → ℕ
@@ -76,18 +118,19 @@ last_of (At at verdict) = at
 last_of (Context node at depth back verdict) = at
 last_of (Unreachable first last) = last
 
--- the first line by address from a cursor on, and the word after it, if there is one; none where no word is left
-abbrev pub IsByAddress : Image → List Node → List Verdict → ℕ → Option (Line × Option ℕ) → Type 0
-IsByAddress image nodes verdicts from None = IsNextText image from None
-IsByAddress image nodes verdicts from (Some (line, next)) =
-    (address : ℕ) × IsNextText image from (Some address) × IsLineAt image nodes verdicts address line
-    × IsNextText image (last_of line + 4) next
+-- the first line by address from a cursor on, and the address of the next one after it, if there is one; none where no
+-- address with a line is left
+abbrev pub IsByAddress : Layout → List Verdict → ℕ → Option (Line × Option ℕ) → Type 0
+IsByAddress layout verdicts from None = IsNextLine layout from None
+IsByAddress layout verdicts from (Some (line, next)) =
+    (address : ℕ) × IsNextLine layout from (Some address) × IsLineAt layout verdicts address line
+    × IsNextLine layout (last_of line + 1) next
 
 -- the line of the configuration with a number
 abbrev pub IsLineOf : List Configuration → List Verdict → ℕ → Line → Type 0
 IsLineOf configurations verdicts number (Context node at depth back verdict) =
     (node ≡ number) × (slice_get verdicts number ≡ Some verdict)
-    × ((c : Configuration) × (slice_get configurations number ≡ Some c) × (at ≡ c.at) × (depth ≡ length c.frames)
+    × ((c : Configuration) × (slice_get configurations number ≡ Some c) × (at ≡ fetched c) × (depth ≡ length c.frames)
     × (back ≡ option_map (λ frame. frame.back) (newest c.frames)))
 IsLineOf configurations verdicts number (At at verdict) = ⊥
 IsLineOf configurations verdicts number (Unreachable first last) = ⊥

@@ -5,12 +5,11 @@ use Rattle.std.specs.List.{AllByRecursion}
 use Rattle.std.specs.Result.{result_unwrap_or}
 use Rattle.std.proofs.lemmas.Bool.{cases_lt}
 use Rattle.list_lemmas.proofs.Members.{has-none}
-use Rattle.elf_spec.specs.Image.{Image}
-use Rattle.flow_spec.specs.Acceptance.{Step, IsFaultless, IsAccepted, IsRefused, fetch_limit}
+use Rattle.flow_spec.specs.Program.{Program}
+use Rattle.flow_spec.specs.Acceptance.{Step, is_good_entry, IsFaultless, IsAccepted, IsRefused, fetch_limit}
 use Rattle.flow_spec.specs.Configuration.{Configuration, start_of}
 use Rattle.flow_spec.specs.Order.{configuration_cmp}
 use Rattle.flow_spec.specs.Successors.{Successors}
-use Rattle.flow_spec.specs.Transfer.{is_good_target}
 use Rattle.flow_spec.proofs.Ordered.{configurations_total, equal-same}
 use Rattle.flow_spec.specs.declared.fault.FlowFault.{FlowFault}
 use Rattle.flow_spec.specs.declared.fault.FlowFault.TheVariants.{BadEntry, TooManyFetches}
@@ -80,44 +79,44 @@ module _ (step : Step) where
         },
       )
 
-  module _ (image : Image) (entry : ℕ) where
+  module _ (program : Program) where
     -- the program is accepted or refused
     abbrev IsDecided : Type 0
     IsDecided =
-        ((layers : List (List Configuration)) × IsAccepted step image entry layers)
-        ⊎ ((fault : FlowFault) × IsRefused step image entry fault)
+        ((layers : List (List Configuration)) × IsAccepted step program layers)
+        ⊎ ((fault : FlowFault) × IsRefused step program fault)
 
     -- the last layer so far has a fault, or the limit is passed with the next one, or the walk goes on with that
-    further : (before last : List Configuration) → IsWalked step image entry before last
-        → ((next : List Configuration) → IsWalked step image entry (before ++ last) next → IsDecided) → IsDecided
+    further : (before last : List Configuration) → IsWalked step program before last
+        → ((next : List Configuration) → IsWalked step program (before ++ last) next → IsDecided) → IsDecided
     further before last walked go_on = elim (fails_or_not last) [
-      | inl (fault, fails) ↦ inr (fault, inr (inl (faulty step image entry before last walked fault fails)))
+      | inl (fault, fails) ↦ inr (fault, inr (inl (faulty step program before last walked fault fails)))
       | inr faultless ↦
           let (next, are) = next_of before last in
           elim (cases_lt fetch_limit (length ((before ++ last) ++ next))) [
             | inl many ↦
-                let passed = too_many step image entry before last walked next faultless are many in
+                let passed = too_many step program before last walked next faultless are many in
                 inr (TooManyFetches fetch_limit, inr (inr passed))
-            | inr few ↦ go_on next (walked_more step image entry before last walked next faultless are few)
+            | inr few ↦ go_on next (walked_more step program before last walked next faultless are few)
           ]
     ]
 
     -- a walk ends, since n configurations more would pass the limit and each layer that isn't empty takes one
-    decided_from : (n : ℕ) (before last : List Configuration) → IsWalked step image entry before last
+    decided_from : (n : ℕ) (before last : List Configuration) → IsWalked step program before last
         → fetch_limit < length before + n → IsDecided
     decided_from zero before last walked room = absurd (omega (arith, room, walked.few, length-append before last))
-    decided_from (suc n) before [] walked room = inl (walked.earlier, accepted step image entry before [] walked refl)
+    decided_from (suc n) before [] walked room = inl (walked.earlier, accepted step program before [] walked refl)
     decided_from (suc n) before (c ∷ last) walked room =
         further before (c ∷ last) walked (λ next goes_on.
         decided_from n (before ++ c ∷ last) next goes_on (omega (arith, room, length-append before (c ∷ last))))
 
     -- by whether the entry is good
-    decided_by : (good : Bool) → is_good_target image entry ≡ good → IsDecided
+    decided_by : (good : Bool) → is_good_entry program ≡ good → IsDecided
     decided_by true is =
-        decided_from (fetch_limit + 1) [] (start_of entry ∷ []) (walked_begin step image entry is) (omega arith)
+        decided_from (fetch_limit + 1) [] (start_of program.entry ∷ []) (walked_begin step program is) (omega arith)
     decided_by false is =
-        inr (BadEntry entry, inl (subst (λ (good : Bool). IsTrue (not good)) (sym is) refl, refl))
+        inr (BadEntry program.entry, inl (subst (λ (good : Bool). IsTrue (not good)) (sym is) refl, refl))
 
     -- so it is of each program
     pub accepted_or_refused : IsDecided
-    accepted_or_refused = decided_by (is_good_target image entry) refl
+    accepted_or_refused = decided_by (is_good_entry program) refl

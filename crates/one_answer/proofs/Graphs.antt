@@ -6,8 +6,8 @@ use Rattle.std.specs.Option.{option_to_list}
 use Rattle.std.specs.declared.cmp.Ordering.TheVariants.{Less}
 use Rattle.std.proofs.lemmas.List.Elements.{Contains-append_cases}
 use Rattle.list_lemmas.proofs.Members.{has-first, has-later, has-found, each-has}
-use Rattle.elf_spec.specs.Image.{Image}
 use Rattle.transition_spec.specs.Layer.{IsInLayer, AreLayersFrom, all_of}
+use Rattle.flow_spec.specs.Program.{Program}
 use Rattle.flow_spec.specs.Acceptance.{Step}
 use Rattle.flow_spec.specs.Configuration.{Configuration, start_of}
 use Rattle.flow_spec.specs.Order.{configuration_cmp}
@@ -148,12 +148,12 @@ module _ (step : Step) (entry : ℕ) where
         cc (one_line number c line other are.0 are'.0, one_text (number + 1) cs lines others are.1 are'.1)
 
 -- the text of a graph is one
-pub one_graph_text : (image : Image) (entry : ℕ) (text other : List ℕ) → IsGraphText image entry text
-    → IsGraphText image entry other → text ≡ other
-one_graph_text image entry text other (layers, accepted, (lines, are, is)) (layers', accepted', (lines', are', is')) =
-    let step = successors image entry in
-    let same : all_of layers' ≡ all_of layers = one_numbering step entry image layers' layers accepted' accepted in
+pub one_graph_text : (program : Program) (text other : List ℕ) → IsGraphText program text
+    → IsGraphText program other → text ≡ other
+one_graph_text program text other (layers, accepted, (lines, are, is)) (layers', accepted', (lines', are', is')) =
+    let step = successors program in
+    let same : all_of layers' ≡ all_of layers = one_numbering step program layers' layers accepted' accepted in
     let apart : AreApart (all_of layers) =
-    layers_apart step entry 0 layers (prefix step entry 0 layers ([] ∷ []) accepted.are_layers) in
-    is ∙ one_text step entry (all_of layers) apart 0 (all_of layers) lines lines' are
+    layers_apart step program.entry 0 layers (prefix step program.entry 0 layers ([] ∷ []) accepted.are_layers) in
+    is ∙ one_text step program.entry (all_of layers) apart 0 (all_of layers) lines lines' are
     (subst (λ cs. AreGraphLines step cs 0 cs lines') same are') ∙ sym is'

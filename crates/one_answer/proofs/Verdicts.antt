@@ -1,11 +1,11 @@
 -- One verdict is right of some configurations, but for its ways.
 use Rattle.std.proofs.Common.{◌≡◌, ℕ, List, refl, inl, inr}
 use Rattle.std.specs.Prelude.{true, false}
-use Rattle.elf_spec.specs.Image.{Image}
 use Rattle.cache_spec.specs.Geometry.{Geometry}
 use Rattle.cache_spec.specs.declared.start.Start.{Start}
 use Rattle.cache_spec.specs.Verdict.{IsAlwaysHit, IsAlwaysMiss}
 use Rattle.cache_spec.proofs.Starts.{can_end}
+use Rattle.flow_spec.specs.Program.{Program}
 use Rattle.flow_spec.specs.Configuration.{Configuration}
 use Rattle.transition_spec.specs.declared.way.Way.{Way}
 use Rattle.report_spec.specs.declared.line.Verdict.{Verdict}
@@ -13,10 +13,10 @@ use Rattle.report_spec.specs.declared.line.Verdict.TheVariants.{AlwaysHit, Alway
 use Rattle.report_spec.specs.Right.{Fetches, NamesFate, IsRight, fetches_of}
 use Rattle.one_answer.specs.Alike.{verdict_alone}
 
-module _ (image : Image) (entry : ℕ) (g : Geometry) (start : Start) (Ends : Configuration → Type 0) where
+module _ (program : Program) (g : Geometry) (start : Start) (Ends : Configuration → Type 0) where
   -- the fetches of some configurations
   abbrev Fetched : List ℕ → Type 0
-  Fetched = Fetches image entry Ends
+  Fetched = Fetches program Ends
 
   -- not always a hit and always a miss: the last fetch of a path can do one of them
   hits_misses : IsAlwaysHit g start Fetched → IsAlwaysMiss g start Fetched → ⊥
@@ -28,18 +28,18 @@ module _ (image : Image) (entry : ℕ) (g : Geometry) (start : Start) (Ends : Co
       ]
 
   -- not always a hit where a way leads to a miss
-  hits_way : (way : Way) → IsAlwaysHit g start Fetched → NamesFate image entry g start Ends way false → ⊥
+  hits_way : (way : Way) → IsAlwaysHit g start Fetched → NamesFate program g start Ends way false → ⊥
   hits_way way hits named =
       hits.none (fetches_of named.path) (named.path, named.ends_in, refl) named.fate
 
   -- not always a miss where a way leads to a hit
-  misses_way : (way : Way) → IsAlwaysMiss g start Fetched → NamesFate image entry g start Ends way true → ⊥
+  misses_way : (way : Way) → IsAlwaysMiss g start Fetched → NamesFate program g start Ends way true → ⊥
   misses_way way misses named =
       misses.none (fetches_of named.path) (named.path, named.ends_in, refl) named.fate
 
   -- two right verdicts are one, but for their ways
-  pub one_verdict : (verdict other : Verdict) → IsRight image entry g start Ends verdict
-      → IsRight image entry g start Ends other
+  pub one_verdict : (verdict other : Verdict) → IsRight program g start Ends verdict
+      → IsRight program g start Ends other
       → verdict_alone verdict ≡ verdict_alone other
   one_verdict AlwaysHit AlwaysHit right right' = refl
   one_verdict AlwaysHit AlwaysMiss right right' = absurd (hits_misses right right')
@@ -52,7 +52,7 @@ module _ (image : Image) (entry : ℕ) (g : Geometry) (start : Start) (Ends : Co
   one_verdict (Unknown hit miss) (Unknown hit' miss') right right' = refl
 
   -- where a verdict is right some path ends there
-  pub reached : (verdict : Verdict) → IsRight image entry g start Ends verdict
+  pub reached : (verdict : Verdict) → IsRight program g start Ends verdict
       → (addresses : List ℕ) × Fetched addresses
   reached AlwaysHit right = right.some
   reached AlwaysMiss right = right.some

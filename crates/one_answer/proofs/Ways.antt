@@ -2,17 +2,18 @@
 use Rattle.std.proofs.Common.{◌≡◌, ℕ, List, [], ◌∷◌, ◌++◌, length, refl, ap, sym, ◌∙◌, subst, arith, inl, inr, append_assoc}
 use Rattle.std.specs.Prelude.{Bool, true, false, Contains, Result, Ok, Err, IsOkAnd, if◌then◌else◌}
 use Rattle.list_lemmas.proofs.Members.{has-none, has-cases}
-use Rattle.elf_spec.specs.Image.{Image}
 use Rattle.transition_spec.specs.declared.way.Way.{Way}
 use Rattle.transition_spec.specs.Path.{IsSuccessor, IsPath, IsLetter, HasChoices}
 use Rattle.transition_spec.specs.Named.{Names}
+use Rattle.flow_spec.specs.Program.{Program}
 use Rattle.flow_spec.specs.declared.next.Next.{Next}
 use Rattle.flow_spec.specs.declared.next.Next.TheVariants.{Ends, Go, Fork, Enter, Back}
+use Rattle.flow_spec.specs.declared.fault.FlowFault.{FlowFault}
 use Rattle.flow_spec.specs.declared.fault.FlowFault.TheVariants.{Recursion}
 use Rattle.flow_spec.specs.declared.frame.Frame.{Frame}
-use Rattle.flow_spec.specs.Configuration.{Configuration, configuration, start_of}
+use Rattle.flow_spec.specs.Configuration.{Configuration, configuration, start_of, next_part}
 use Rattle.flow_spec.specs.Next.{Going, next_at}
-use Rattle.flow_spec.specs.Successors.{successors, successors_by, leads_to, is_open, newest}
+use Rattle.flow_spec.specs.Successors.{Successors, has_next_part, successors, successors_by, leads_to, is_open, older, newest}
 
 -- no state has three successors
 abbrev AreFew : {C F : Type 0} → (C → Result (List C) F) → Type 0
@@ -101,38 +102,50 @@ module _ {C F : Type 0} (step : C → Result (List C) F) (start : C) (few : AreF
       (one_course path other way.choices way.choices [] [] path_is other_is (sym names.steps ∙ names'.steps)
       names.choices names'.choices refl).0
 
--- a call has one successor, or is recursion
-few_entered : (at : ℕ) (entered : Configuration) (again : Bool) (first second third : Configuration)
-    (others : List Configuration)
-    → (if again then Err (Recursion at) else Ok (entered ∷ [])) ≡ Ok (first ∷ second ∷ third ∷ others) → ⊥
-few_entered at entered true first second third others is = absurd (cc is)
-few_entered at entered false first second third others is = absurd (cc is)
+-- these aren't three successors
+abbrev AreNotThree : Successors → Type 0
+AreNotThree goes = (first second third : Configuration) (others : List Configuration)
+    → goes ≡ Ok (first ∷ second ∷ third ∷ others) → ⊥
+
+-- neither of two ways to go has three
+few_either : (test : Bool) (goes other : Successors) → AreNotThree goes → AreNotThree other
+    → AreNotThree (if test then goes else other)
+few_either true goes other few few' = few
+few_either false goes other few few' = few'
+
+-- a fault has none, and one successor isn't three
+few_faulty : (fault : FlowFault) → AreNotThree (Err fault)
+few_faulty fault first second third others is = absurd (cc is)
+
+few_one : (next : Configuration) → AreNotThree (Ok (next ∷ []))
+few_one next first second third others is = absurd (cc is)
 
 -- where control goes there are at most two successors
-few_ways : (entry : ℕ) (frames : List Frame) (at : ℕ) (next : Next) (first second third : Configuration)
-    (others : List Configuration)
-    → leads_to entry frames at next ≡ Ok (first ∷ second ∷ third ∷ others) → ⊥
-few_ways entry frames at Ends first second third others is = absurd (cc is)
-few_ways entry frames at (Go target) first second third others is = absurd (cc is)
-few_ways entry frames at (Fork next target) first second third others is = absurd (cc is)
-few_ways entry frames at (Enter target frame) first second third others is =
-    few_entered at (configuration (frames ++ frame ∷ []) target) (is_open entry frames target) first second third others
-    is
-few_ways entry frames at (Back target) first second third others is = absurd (cc is)
+few_ways : (entry : ℕ) (frames : List Frame) (at : ℕ) (next : Next) → AreNotThree (leads_to entry frames at next)
+few_ways entry frames at Ends = λ first second third others is. absurd (cc is)
+few_ways entry frames at (Go target) = few_one (configuration frames target)
+few_ways entry frames at (Fork next target) = λ first second third others is. absurd (cc is)
+few_ways entry frames at (Enter target frame) =
+    let entered = configuration (frames ++ frame ∷ []) target in
+    few_either (is_open entry frames target) (Err (Recursion at)) (Ok (entered ∷ [])) (few_faulty (Recursion at))
+    (few_one entered)
+few_ways entry frames at (Back target) = few_one (configuration (older frames) target)
 
-few_by : (entry : ℕ) (c : Configuration) (going : Going) (first second third : Configuration)
-    (others : List Configuration)
-    → successors_by entry c going ≡ Ok (first ∷ second ∷ third ∷ others) → ⊥
-few_by entry c (Ok next) first second third others is = few_ways entry c.frames c.at next first second third others is
-few_by entry c (Err fault) first second third others is = absurd (cc is)
+few_by : (entry : ℕ) (c : Configuration) (going : Going) → AreNotThree (successors_by entry c going)
+few_by entry c (Ok next) = few_ways entry c.frames c.at next
+few_by entry c (Err fault) = few_faulty fault
 
-few_successors : (image : Image) (entry : ℕ) → AreFew (successors image entry)
+-- the next part of an instruction is the one successor, or control goes on
+few_successors : (program : Program) → AreFew (successors program)
 unfolding successors
-few_successors image entry c first second third others is =
-    few_by entry c (next_at image c.at (newest c.frames)) first second third others is
+few_successors program c =
+    let going = next_at program.isa program.image c.at (newest c.frames) in
+    few_either (has_next_part program c) (Ok (next_part c ∷ [])) (successors_by program.entry c going)
+    (few_one (next_part c)) (few_by program.entry c going)
 
 -- a way names one path of a program
-pub one_program_path : (image : Image) (entry : ℕ) (way : Way) (path other : List Configuration)
-    → IsPath (successors image entry) (start_of entry) path → IsPath (successors image entry) (start_of entry) other
-    → Names (successors image entry) way path → Names (successors image entry) way other → path ≡ other
-one_program_path image entry = one_path (successors image entry) (start_of entry) (few_successors image entry)
+pub one_program_path : (program : Program) (way : Way) (path other : List Configuration)
+    → IsPath (successors program) (start_of program.entry) path
+    → IsPath (successors program) (start_of program.entry) other
+    → Names (successors program) way path → Names (successors program) way other → path ≡ other
+one_program_path program = one_path (successors program) (start_of program.entry) (few_successors program)

@@ -1,7 +1,6 @@
 // What is the same of every answer to a program.
 ghost use Rattle.std.specs.Prelude.{◌≡◌, ◌↔◌, ◌⊎◌, ℕ, Bool, IsTrue, IsFalse, List};
 ghost use Rattle.std.specs.List.{AllByRecursion};
-ghost use Rattle.elf_spec.specs.Image.{Image};
 ghost use Rattle.cache_spec.specs.declared.start.Start.{Start};
 ghost use Rattle.cache_spec.specs.Contents.{ends_in_hit};
 ghost use Rattle.cache_spec.specs.Geometry.{Geometry};
@@ -13,6 +12,7 @@ ghost use Rattle.transition_spec.specs.Path.{IsPath};
 ghost use Rattle.flow_spec.specs.declared.fault.FlowFault.{FlowFault};
 ghost use Rattle.flow_spec.specs.Acceptance.{Step, IsAccepted, IsRefused};
 ghost use Rattle.flow_spec.specs.Configuration.{Configuration, start_of};
+ghost use Rattle.flow_spec.specs.Program.{Program};
 ghost use Rattle.flow_spec.specs.Successors.{successors};
 ghost use Rattle.cache_spec.specs.Blocks.{HaveFewInAll, HaveMany};
 ghost use Rattle.report_spec.specs.declared.line.Line.{Line};
@@ -27,15 +27,15 @@ use cache_spec::start_laws;
 /// A program is accepted or refused, and not both, with one numbering or one fault; and no set has too many blocks, or
 /// one set is the first that has, and not both.
 pub fn one_answer()
-    ensures accepted_or_refused { (step : Step) (image : Image) (entry : ℕ)
-        → ((layers : List (List Configuration)) × IsAccepted step image entry layers)
-        ⊎ ((fault : FlowFault) × IsRefused step image entry fault) }
-    ensures either { (step : Step) (image : Image) (entry : ℕ) (layers : List (List Configuration)) (fault : FlowFault)
-        → IsAccepted step image entry layers → IsRefused step image entry fault → ⊥ }
-    ensures numbering { (step : Step) (image : Image) (entry : ℕ) (layers others : List (List Configuration))
-        → IsAccepted step image entry layers → IsAccepted step image entry others → all_of layers ≡ all_of others }
-    ensures fault { (step : Step) (image : Image) (entry : ℕ) (fault other : FlowFault)
-        → IsRefused step image entry fault → IsRefused step image entry other → fault ≡ other }
+    ensures accepted_or_refused { (step : Step) (program : Program)
+        → ((layers : List (List Configuration)) × IsAccepted step program layers)
+        ⊎ ((fault : FlowFault) × IsRefused step program fault) }
+    ensures either { (step : Step) (program : Program) (layers : List (List Configuration)) (fault : FlowFault)
+        → IsAccepted step program layers → IsRefused step program fault → ⊥ }
+    ensures numbering { (step : Step) (program : Program) (layers others : List (List Configuration))
+        → IsAccepted step program layers → IsAccepted step program others → all_of layers ≡ all_of others }
+    ensures fault { (step : Step) (program : Program) (fault other : FlowFault)
+        → IsRefused step program fault → IsRefused step program other → fault ≡ other }
     ensures few_or_many { (addresses : List ℕ) (g : Geometry)
         → HaveFewInAll addresses g ⊎ ((set : ℕ) × (count : ℕ) × HaveMany addresses g set count) }
     ensures few { (addresses : List ℕ) (g : Geometry) (set count : ℕ)
@@ -46,19 +46,20 @@ pub fn one_answer()
 
 /// A way names at most one path of a program, so that an unknown line tells which path can hit and which one can miss.
 pub fn one_path()
-    ensures { (image : Image) (entry : ℕ) (way : Way) (path other : List Configuration)
-        → IsPath (successors image entry) (start_of entry) path → IsPath (successors image entry) (start_of entry) other
-        → Names (successors image entry) way path → Names (successors image entry) way other → path ≡ other }
+    ensures { (program : Program) (way : Way) (path other : List Configuration)
+        → IsPath (successors program) (start_of program.entry) path
+        → IsPath (successors program) (start_of program.entry) other
+        → Names (successors program) way path → Names (successors program) way other → path ≡ other }
 {}
 
 /// The program, the geometry and the start determine all of a report but the ways of its unknown lines, and the program
 /// all of the text of a graph.
 pub fn one_text()
-    ensures report { (image : Image) (entry : ℕ) (g : Geometry) (start : Start) (contexts : Bool) (text other : List ℕ)
-        → IsReport image entry g start contexts text → IsReport image entry g start contexts other
+    ensures report { (program : Program) (g : Geometry) (start : Start) (contexts : Bool) (text other : List ℕ)
+        → IsReport program g start contexts text → IsReport program g start contexts other
         → AreAlikeTexts text other }
-    ensures graph { (image : Image) (entry : ℕ) (text other : List ℕ)
-        → IsGraphText image entry text → IsGraphText image entry other → text ≡ other }
+    ensures graph { (program : Program) (text other : List ℕ)
+        → IsGraphText program text → IsGraphText program other → text ≡ other }
 {}
 
 /// A set of paths, each given as the addresses that it fetches. It is a trait since no clause can range over all sets.

@@ -1,7 +1,10 @@
 pub mod Transport
-pub mod Words
+pub mod Steps
+pub mod Listed
+pub mod Inner
 pub mod Numbers
 pub mod Addresses
+pub mod Decided
 pub mod Rest
 pub mod Valid
 pub mod Made

@@ -5,10 +5,10 @@ use Rattle.std.proofs.lemmas.Bool.Decides.{nat_tests}
 use Rattle.std.proofs.lemmas.Option.{slice_get_within, get_or_from_slice_get}
 use Rattle.std.proofs.lemmas.Slice.Zip.{AllZip-long}
 use Rattle.list_lemmas.proofs.Members.{found-inside}
-use Rattle.elf_spec.specs.Image.{Image}
 use Rattle.cache_spec.specs.Geometry.{Geometry}
 use Rattle.cache_spec.specs.declared.start.Start.{Start}
-use Rattle.flow_spec.specs.Configuration.{Configuration, start_of}
+use Rattle.flow_spec.specs.Program.{Program}
+use Rattle.flow_spec.specs.Configuration.{Configuration, start_of, fetched}
 use Rattle.flow_spec.specs.Successors.{newest}
 use Rattle.path_model.specs.declared.graph.Node.{Node}
 use Rattle.report_spec.specs.declared.line.Line.{Line}
@@ -37,9 +37,9 @@ drop_past [] (suc k) past = refl
 drop_past (x ∷ xs) zero past = absurd (omega (arith, past))
 drop_past (x ∷ xs) (suc k) past = drop_past xs k (omega (arith, past))
 
-module _ (image : Image) (entry : ℕ) (g : Geometry) (start : Start) (configurations : List Configuration)
+module _ (program : Program) (g : Geometry) (start : Start) (configurations : List Configuration)
     (nodes : List Node) (verdicts : List Verdict)
-    (found : AreFindings image entry g start configurations nodes verdicts) where
+    (found : AreFindings program g start configurations nodes verdicts) where
   -- there is a node for each configuration
   long : length configurations ≡ length nodes
   long = sym (AllZip-long _ _ _ found.graph.each)
@@ -47,31 +47,31 @@ module _ (image : Image) (entry : ℕ) (g : Geometry) (start : Start) (configura
   -- the line of a configuration is right
   context_line : (k : ℕ) (c : Configuration) (line : Line) → slice_get configurations k ≡ Some c
       → IsLineOf configurations verdicts k line
-      → IsContextLine image entry g start k c line
+      → IsContextLine program g start k c line
   context_line k c (At at verdict) is line = absurd line
   context_line k c (Unreachable first last) is line = absurd line
   context_line k c (Context node at depth back verdict) is (number, has, (d, is_d, at_is, depth_is, back_is)) =
       let same : d ≡ c = cc (is, is_d) in
       let below : k < length configurations = slice_get_within configurations k c is in
       let here : numbered configurations k ≡ d = get_or_from_slice_get configurations k d (start_of 0) is_d in
-      let right : IsRight image entry g start (λ e. e ≡ numbered configurations k) verdict =
-      context_right image entry g start configurations nodes verdicts found.graph found.right k verdict
+      let right : IsRight program g start (λ e. e ≡ numbered configurations k) verdict =
+      context_right program g start configurations nodes verdicts found.graph found.right k verdict
       (omega (arith, below, long)) long has in
-      subst (λ (c : Configuration). IsContextLine image entry g start k c (Context node at depth back verdict)) same (
+      subst (λ (c : Configuration). IsContextLine program g start k c (Context node at depth back verdict)) same (
         number,
         at_is,
         depth_is,
         back_is,
-        subst (λ (c : Configuration). IsRight image entry g start (λ e. e ≡ c) verdict) here right,
+        subst (λ (c : Configuration). IsRight program g start (λ e. e ≡ c) verdict) here right,
       )
 
   -- what stands after a number, where the lines from the next on are those of the configurations left
   after_number : (k : ℕ) (lines : List Line) → (AreAllFrom (IsByNumber configurations verdicts) (Some (k + 1)) lines
-      → AreContextLines image entry g start (k + 1) (drop (k + 1) configurations) lines)
+      → AreContextLines program g start (k + 1) (drop (k + 1) configurations) lines)
       → (next : Option ℕ) → next ≡ (if nat_lt (k + 1) (length configurations) then Some (k + 1) else None)
       → AreAllFrom (IsByNumber configurations verdicts) next lines → (more : Bool)
       → nat_lt (k + 1) (length configurations) ≡ more
-      → AreContextLines image entry g start (k + 1) (drop (k + 1) configurations) lines
+      → AreContextLines program g start (k + 1) (drop (k + 1) configurations) lines
   after_number k lines later next next_is all true is =
       let to : next ≡ Some (k + 1) = next_is ∙ rw is refl in
       later (subst (λ (p : Option ℕ). AreAllFrom (IsByNumber configurations verdicts) p lines) to all)
@@ -80,28 +80,28 @@ module _ (image : Image) (entry : ℕ) (g : Geometry) (start : Start) (configura
       let none : lines ≡ [] = subst (λ (p : Option ℕ). AreAllFrom (IsByNumber configurations verdicts) p lines) to
       all in
       let past : length configurations ≤ k + 1 = grind (arith, nat_tests, is) in
-      subst (λ (ls : List Line). AreContextLines image entry g start (k + 1) (drop (k + 1) configurations) ls)
-      (sym none) (subst (λ (cs : List Configuration). AreContextLines image entry g start (k + 1) cs [])
+      subst (λ (ls : List Line). AreContextLines program g start (k + 1) (drop (k + 1) configurations) ls)
+      (sym none) (subst (λ (cs : List Configuration). AreContextLines program g start (k + 1) cs [])
       (sym (drop_past configurations (k + 1) past)) tt)
 
   -- a line of a configuration, and those after it
   with_context : (k : ℕ) (line : Line) (lines : List Line) → IsLineOf configurations verdicts k line
-      → AreContextLines image entry g start (k + 1) (drop (k + 1) configurations) lines
-      → AreContextLines image entry g start k (drop k configurations) (line ∷ lines)
+      → AreContextLines program g start (k + 1) (drop (k + 1) configurations) lines
+      → AreContextLines program g start k (drop k configurations) (line ∷ lines)
   with_context k (At at verdict) lines is later = absurd is
   with_context k (Unreachable first last) lines is later = absurd is
   with_context k (Context node at depth back verdict) lines is later =
       let (number, has, (c, is_c, at_is, depth_is, back_is)) = is in
-      subst (λ (cs : List Configuration). AreContextLines image entry g start k cs
+      subst (λ (cs : List Configuration). AreContextLines program g start k cs
       (Context node at depth back verdict ∷ lines))
       (sym (drop_at configurations k c is_c))
       (context_line k c (Context node at depth back verdict) is_c is, later)
 
   -- all lines from a number on are those of the configurations from there on
   pub context_lines : (lines : List Line) (k : ℕ) → AreAllFrom (IsByNumber configurations verdicts) (Some k) lines
-      → AreContextLines image entry g start k (drop k configurations) lines
+      → AreContextLines program g start k (drop k configurations) lines
   context_lines [] k past =
-      subst (λ (cs : List Configuration). AreContextLines image entry g start k cs [])
+      subst (λ (cs : List Configuration). AreContextLines program g start k cs [])
       (sym (drop_past configurations k past)) tt
   context_lines (line ∷ lines) k (next, (line_is, next_is), later) =
       with_context k line lines line_is
@@ -113,7 +113,7 @@ module _ (image : Image) (entry : ℕ) (g : Geometry) (start : Start) (configura
   line_there k below =
       let (c, is_c) = found-inside configurations k below in
       let (v, is_v, right) = found.right k (omega (arith, below, long)) in (
-        Context k c.at (length c.frames) (option_map (λ frame. frame.back) (newest c.frames)) v,
+        Context k (fetched c) (length c.frames) (option_map (λ frame. frame.back) (newest c.frames)) v,
         (refl, is_v, (c, is_c, refl, refl, refl)),
       )
 

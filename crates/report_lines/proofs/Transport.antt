@@ -2,7 +2,6 @@
 use Rattle.std.proofs.Common.{◌≡◌, ℕ, ◌<◌, List, [], ◌∷◌, length, map, refl, ap, sym, ◌∙◌, subst, inl, inr, arith, Some}
 use Rattle.std.specs.Prelude.{Bool, true, false, not, slice_get}
 use Rattle.std.proofs.lemmas.List.{length-map}
-use Rattle.elf_spec.specs.Image.{Image}
 use Rattle.cache_spec.specs.Geometry.{Geometry}
 use Rattle.cache_spec.specs.declared.start.Start.{Start}
 use Rattle.cache_spec.specs.Start.{CanEnd}
@@ -10,13 +9,14 @@ use Rattle.cache_spec.proofs.Starts.{can_end}
 use Rattle.transition_spec.specs.declared.way.Way.{Way}
 use Rattle.transition_spec.specs.Path.{IsPath}
 use Rattle.transition_spec.specs.Named.{Names}
-use Rattle.flow_spec.specs.Configuration.{Configuration}
+use Rattle.flow_spec.specs.Program.{Program}
+use Rattle.flow_spec.specs.Configuration.{Configuration, fetched}
 use Rattle.flow_spec.specs.Successors.{successors}
 use Rattle.path_model.specs.declared.graph.Node.{Node}
 use Rattle.path_model.specs.Graph.{graph_step, address, address_of}
 use Rattle.path_model.proofs.Reached.{node_reached}
 use Rattle.report_spec.specs.Right.{fetches_of, EndsIn, Fetches, NamesFate, IsRight}
-use Rattle.report_spec.specs.Report.{IsAt, IsUnreached}
+use Rattle.report_spec.specs.Inner.{IsAt, IsUnreached}
 use Rattle.report_spec.specs.declared.line.Verdict.{Verdict}
 use Rattle.report_spec.specs.declared.line.Verdict.TheVariants.{AlwaysHit, AlwaysMiss, Unknown}
 use Rattle.call_expand.specs.Expansion.{IsGraphOf, numbered}
@@ -25,36 +25,37 @@ use Rattle.focus_spec.specs.Fate.{PathCanEnd, AllEnd, NamesEnd}
 use Rattle.node_spec.specs.Verdict.{IsNodeVerdict, IsRightAt}
 use Rattle.node_spec.specs.Plan.{IsNodeAt, NamesPathTo, IsVerdictWay, IsWayAt, IsMerged}
 
-module _ (image : Image) (entry : ℕ) (g : Geometry) (start : Start) (configurations : List Configuration)
+module _ (program : Program) (g : Geometry) (start : Start) (configurations : List Configuration)
     (nodes : List Node)
-    (is : IsGraphOf (successors image entry) entry configurations nodes) (Ends : Configuration → Type 0) where
+    (is : IsGraphOf (successors program) program.entry configurations nodes) (Ends : Configuration → Type 0) where
   -- a path of the graph that ends in a node of these configurations, as one of the configurations
-  ends_in : (n : ℕ) (earlier : List ℕ) → IsPath (graph_step nodes) 0 (n ∷ earlier) → Ends (numbered configurations n)
-      → EndsIn image entry Ends (map (numbered configurations) (n ∷ earlier))
+  pub ends_in : (n : ℕ) (earlier : List ℕ) → IsPath (graph_step nodes) 0 (n ∷ earlier) → Ends (numbered configurations n)
+      → EndsIn program Ends (map (numbered configurations) (n ∷ earlier))
   ends_in n earlier path ends = record {
     last = numbered configurations n;
     earlier = map (numbered configurations) earlier;
     path_is = refl;
-    is_path = path_to (successors image entry) entry configurations nodes is (n ∷ earlier) path;
+    is_path = path_to (successors program) program.entry configurations nodes is (n ∷ earlier) path;
     ends = ends;
   }
 
   -- both fetch the same addresses
   same_fetches : (n : ℕ) (earlier : List ℕ) → IsPath (graph_step nodes) 0 (n ∷ earlier)
       → map (address_of nodes) (n ∷ earlier) ≡ fetches_of (map (numbered configurations) (n ∷ earlier))
-  same_fetches n earlier path = path_addresses (successors image entry) entry configurations nodes is (n ∷ earlier) path
+  same_fetches n earlier path =
+      path_addresses (successors program) program.entry configurations nodes is (n ∷ earlier) path
 
   -- the way to a node names a path to its configuration, which can end as the one to the node can
   pub named_fate : (n : ℕ) (earlier : List ℕ) (way : Way) (hits : Bool) → IsPath (graph_step nodes) 0 (n ∷ earlier)
       → Names (graph_step nodes) way (n ∷ earlier) → PathCanEnd nodes g start (n ∷ earlier) hits
       → Ends (numbered configurations n)
-      → NamesFate image entry g start Ends way hits
+      → NamesFate program g start Ends way hits
   named_fate n earlier way hits path names fate ends = record {
     path = map (numbered configurations) (n ∷ earlier);
     ends_in = ends_in n earlier path ends;
     names = record {
       steps = names.steps ∙ sym (length-map (n ∷ earlier) (numbered configurations));
-      choices = choices_to (successors image entry) entry configurations nodes is (n ∷ earlier) way.choices path
+      choices = choices_to (successors program) program.entry configurations nodes is (n ∷ earlier) way.choices path
           names.choices;
     };
     fate = subst (λ (addresses : List ℕ). CanEnd g start addresses hits) (same_fetches n earlier path) fate;
@@ -62,18 +63,18 @@ module _ (image : Image) (entry : ℕ) (g : Geometry) (start : Start) (configura
 
   -- some path ends in the configuration of each node
   pub some_fetches : (n : ℕ) → n < length nodes → Ends (numbered configurations n)
-      → (addresses : List ℕ) × Fetches image entry Ends addresses
+      → (addresses : List ℕ) × Fetches program Ends addresses
   some_fetches n inside ends =
       let (earlier, path) = node_reached nodes n is.graph inside in
       let whole = map (numbered configurations) (n ∷ earlier) in
       (fetches_of whole, (whole, ends_in n earlier path ends, refl))
 
   -- each path that ends in one of the configurations is one of the graph, and ends in a node of it
-  pub of_graph : (addresses : List ℕ) → Fetches image entry Ends addresses
+  pub of_graph : (addresses : List ℕ) → Fetches program Ends addresses
       → (n : ℕ) × (earlier : List ℕ) × IsPath (graph_step nodes) 0 (n ∷ earlier) × Ends (numbered configurations n)
       × (addresses ≡ map (address_of nodes) (n ∷ earlier))
   of_graph addresses (path, ends, same) =
-      let found = path_from (successors image entry) entry configurations nodes is path ends.is_path in
+      let found = path_from (successors program) program.entry configurations nodes is path ends.is_path in
       of_members found.0 found.1 (found.2 ∙ ends.path_is) ends.ends (same ∙ ap fetches_of (sym found.2)) where
         of_members : (members : List ℕ) → IsPath (graph_step nodes) 0 members
             → map (numbered configurations) members ≡ ends.last ∷ ends.earlier
@@ -89,23 +90,23 @@ module _ (image : Image) (entry : ℕ) (g : Geometry) (start : Start) (configura
   -- where no path to these nodes can end otherwise, none to their configurations can
   none_ends : (hits : Bool)
       → ((n : ℕ) → Ends (numbered configurations n) → n < length nodes → AllEnd nodes g start n hits)
-      → (addresses : List ℕ) → Fetches image entry Ends addresses → CanEnd g start addresses (not hits) → ⊥
+      → (addresses : List ℕ) → Fetches program Ends addresses → CanEnd g start addresses (not hits) → ⊥
   none_ends hits all addresses fetches can =
       let (n, earlier, path, ends, same) = of_graph addresses fetches in
-      let inside = member_inside (successors image entry) entry configurations nodes is n earlier path in
+      let inside = member_inside (successors program) program.entry configurations nodes is n earlier path in
       all n ends inside earlier path (subst (λ (addresses : List ℕ). CanEnd g start addresses (not hits)) same can)
 
   -- where all nodes of the configurations always hit, so do these
   pub always_hit : (n : ℕ) → n < length nodes → Ends (numbered configurations n)
       → ((m : ℕ) → Ends (numbered configurations m) → m < length nodes → AllEnd nodes g start m true)
-      → IsRight image entry g start Ends AlwaysHit
+      → IsRight program g start Ends AlwaysHit
   always_hit n inside ends all =
       record { some = some_fetches n inside ends; none = λ addresses fetches. none_ends true all addresses fetches }
 
   -- where all always miss, so do these
   pub always_miss : (n : ℕ) → n < length nodes → Ends (numbered configurations n)
       → ((m : ℕ) → Ends (numbered configurations m) → m < length nodes → AllEnd nodes g start m false)
-      → IsRight image entry g start Ends AlwaysMiss
+      → IsRight program g start Ends AlwaysMiss
   always_miss n inside ends all =
       record { some = some_fetches n inside ends; none = λ addresses fetches. none_ends false all addresses fetches }
 
@@ -152,52 +153,55 @@ way_ends nodes g start n (Unknown hit miss) true way ends same =
 way_ends nodes g start n (Unknown hit miss) false way ends same =
     subst (λ (w : Way). NamesEnd nodes g start n w false) (sym same) ends.1
 
-module _ (image : Image) (entry : ℕ) (g : Geometry) (start : Start) (configurations : List Configuration)
+module _ (program : Program) (g : Geometry) (start : Start) (configurations : List Configuration)
     (nodes : List Node) (verdicts : List Verdict)
-    (is : IsGraphOf (successors image entry) entry configurations nodes)
+    (is : IsGraphOf (successors program) program.entry configurations nodes)
     (right : (n : ℕ) → n < length nodes → IsRightAt nodes g start verdicts n) where
   -- the configuration of a node is at the node's address
-  at_address : (address n : ℕ) → IsNodeAt nodes address n → (numbered configurations n).at ≡ address
-  at_address address n here = sym (address_at (successors image entry) entry configurations nodes is n here.inside)
+  pub at_address : (address n : ℕ) → IsNodeAt nodes address n → fetched (numbered configurations n) ≡ address
+  at_address address n here = sym (address_at (successors program) program.entry configurations nodes is n here.inside)
       ∙ here.at
 
   -- the node of a configuration at an address is there
-  node_there : (address n : ℕ) → n < length nodes → (numbered configurations n).at ≡ address → IsNodeAt nodes address n
-  node_there address n inside at =
-      record { inside = inside; at = address_at (successors image entry) entry configurations nodes is n inside ∙ at }
+  node_there : (address n : ℕ) → n < length nodes → fetched (numbered configurations n) ≡ address
+      → IsNodeAt nodes address n
+  node_there address n inside at = record {
+    inside = inside;
+    at = address_at (successors program) program.entry configurations nodes is n inside ∙ at;
+  }
 
   -- the way to a hit at an address names a path that can hit, and that to a miss one that can miss
   way_right : (address : ℕ) (hits : Bool) (way : Way) → IsWayAt nodes verdicts address hits way
-      → NamesFate image entry g start (IsAt address) way hits
+      → NamesFate program g start (IsAt address) way hits
   way_right address hits way (n, here, (verdict, has, to)) =
       let so = verdict_is nodes g start verdicts n verdict (right n here.inside) has in
       let ends : NamesEnd nodes g start n way hits = way_ends nodes g start n verdict hits way so to in
-      named_fate image entry g start configurations nodes is (IsAt address) n ends.earlier way hits ends.is_path
+      named_fate program g start configurations nodes is (IsAt address) n ends.earlier way hits ends.is_path
       ends.names ends.fate (at_address address n here)
 
   -- the merged verdict of an address is right of the configurations there
   pub merged_right : (address : ℕ) (verdict : Verdict) → IsMerged nodes verdicts address verdict
-      → IsRight image entry g start (IsAt address) verdict
+      → IsRight program g start (IsAt address) verdict
   merged_right address AlwaysHit have =
       let (n, here) = have.some in
-      always_hit image entry g start configurations nodes is (IsAt address) n here.inside (at_address address n here)
+      always_hit program g start configurations nodes is (IsAt address) n here.inside (at_address address n here)
       (λ m at inside. verdict_is nodes g start verdicts m AlwaysHit (right m inside)
       (have.each m (node_there address m inside at)))
   merged_right address AlwaysMiss have =
       let (n, here) = have.some in
-      always_miss image entry g start configurations nodes is (IsAt address) n here.inside (at_address address n here)
+      always_miss program g start configurations nodes is (IsAt address) n here.inside (at_address address n here)
       (λ m at inside. verdict_is nodes g start verdicts m AlwaysMiss (right m inside)
       (have.each m (node_there address m inside at)))
   merged_right address (Unknown hit miss) ways =
       (way_right address true hit ways.0, way_right address false miss ways.1)
 
   -- no path ends at an address without a node
-  pub bare_unreached : (address : ℕ) → ((n : ℕ) → IsNodeAt nodes address n → ⊥) → IsUnreached image entry address
+  pub bare_unreached : (address : ℕ) → ((n : ℕ) → IsNodeAt nodes address n → ⊥) → IsUnreached program address
   bare_unreached address bare addresses fetches =
-      let (n, earlier, path, at, same) = of_graph image entry g start configurations nodes is (IsAt address) addresses
+      let (n, earlier, path, at, same) = of_graph program g start configurations nodes is (IsAt address) addresses
       fetches in
-      bare n (node_there address n (member_inside (successors image entry) entry configurations nodes is n earlier path)
-      at)
+      bare n (node_there address n
+      (member_inside (successors program) program.entry configurations nodes is n earlier path) at)
 
   -- the configuration of a node is that of no other
   only_node : (n m : ℕ) → n < length configurations → m < length configurations
@@ -208,14 +212,14 @@ module _ (image : Image) (entry : ℕ) (g : Geometry) (start : Start) (configura
   -- the verdict of a node is right of its configuration alone
   pub context_right : (n : ℕ) (verdict : Verdict) → n < length nodes → length configurations ≡ length nodes
       → slice_get verdicts n ≡ Some verdict
-      → IsRight image entry g start (λ d. d ≡ numbered configurations n) verdict
+      → IsRight program g start (λ d. d ≡ numbered configurations n) verdict
   context_right n AlwaysHit inside long has =
-      always_hit image entry g start configurations nodes is (λ d. d ≡ numbered configurations n) n inside refl
+      always_hit program g start configurations nodes is (λ d. d ≡ numbered configurations n) n inside refl
       (λ m same below. subst (λ (k : ℕ). AllEnd nodes g start k true)
       (sym (only_node n m (omega (arith, inside, long)) (omega (arith, below, long)) same))
       (verdict_is nodes g start verdicts n AlwaysHit (right n inside) has))
   context_right n AlwaysMiss inside long has =
-      always_miss image entry g start configurations nodes is (λ d. d ≡ numbered configurations n) n inside refl
+      always_miss program g start configurations nodes is (λ d. d ≡ numbered configurations n) n inside refl
       (λ m same below. subst (λ (k : ℕ). AllEnd nodes g start k false)
       (sym (only_node n m (omega (arith, inside, long)) (omega (arith, below, long)) same))
       (verdict_is nodes g start verdicts n AlwaysMiss (right n inside) has))
@@ -224,10 +228,10 @@ module _ (image : Image) (entry : ℕ) (g : Geometry) (start : Start) (configura
       verdict_is nodes g start verdicts n (Unknown hit miss) (right n inside) has in
       let a : NamesEnd nodes g start n hit true = ends.0 in
       let b : NamesEnd nodes g start n miss false = ends.1 in (
-        named_fate image entry g start configurations nodes is (λ d. d ≡ numbered configurations n) n a.earlier hit true
+        named_fate program g start configurations nodes is (λ d. d ≡ numbered configurations n) n a.earlier hit true
             a.is_path
             a.names a.fate refl,
-        named_fate image entry g start configurations nodes is (λ d. d ≡ numbered configurations n) n b.earlier miss
+        named_fate program g start configurations nodes is (λ d. d ≡ numbered configurations n) n b.earlier miss
             false
             b.is_path b.names b.fate refl,
       )

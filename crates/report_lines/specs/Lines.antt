@@ -1,16 +1,13 @@
 -- Lines that follow one another, each from the cursor after the one before.
 use Rattle.std.specs.Prelude.{◌≡◌, ℕ, Bool, true, false, List, [], ◌∷◌, ◌++◌, Option, Some, None}
-use Rattle.elf_spec.specs.Image.{Image}
-use Rattle.flow_spec.specs.Configuration.{Configuration}
-use Rattle.path_model.specs.declared.graph.Node.{Node}
 use Rattle.report_spec.specs.declared.line.Line.{Line}
 use Rattle.report_spec.specs.declared.line.Verdict.{Verdict}
-use Rattle.node_spec.specs.Plan.{IsByAddress, IsByNumber}
+use Rattle.node_spec.specs.Plan.{Layout, IsByAddress, IsByNumber}
 
 -- which line, and which cursor after it, stands at a cursor
-abbrev pub Stands : Bool → Image → List Configuration → List Node → List Verdict → ℕ → Option (Line × Option ℕ) → Type 0
-Stands true image configurations nodes verdicts = IsByNumber configurations verdicts
-Stands false image configurations nodes verdicts = IsByAddress image nodes verdicts
+abbrev pub Stands : Bool → Layout → List Verdict → ℕ → Option (Line × Option ℕ) → Type 0
+Stands true layout verdicts = IsByNumber layout.configurations verdicts
+Stands false layout verdicts = IsByAddress layout verdicts
 
 -- the lines are all from a cursor on, where there is one
 abbrev pub AreAllFrom : (ℕ → Option (Line × Option ℕ) → Type 0) → Option ℕ → List Line → Type 0

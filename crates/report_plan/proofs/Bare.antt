@@ -1,83 +1,88 @@
--- Ranges of words at which there is no node.
-use Rattle.std.proofs.Common.{◌≡◌, ℕ, zero, suc, ◌+◌, ◌-◌, ◌*◌, ◌/◌, ◌<◌, ◌≤◌, List, [], ◌∷◌, length, Bool, true, false, Option, Some, ap, sym, subst, arith}
-use Rattle.std.specs.Prelude.{◌==◌, IfNone}
-use Rattle.std.specs.Bool.{then_some}
+-- Ranges of addresses that have a line and no node.
+use Rattle.std.proofs.Common.{◌≡◌, ℕ, zero, suc, ◌+◌, ◌-◌, ◌*◌, ◌/◌, ◌≤◌, List, ap, refl, sym, ◌∙◌, subst, arith}
 use Rattle.std.specs.List.{Contains, AllByRecursion}
-use Rattle.std.proofs.Math.ListN.{get_or}
-use Rattle.std.proofs.lemmas.Bool.{false≢true}
-use Rattle.std.proofs.lemmas.List.Elements.{Contains-get_or}
-use Rattle.elf_spec.specs.Image.{Image}
-use Rattle.elf_spec.specs.Word.{IsNextText}
-use Rattle.path_model.specs.declared.graph.Node.{Node}
-use Rattle.report_spec.specs.Report.{words_from, range_addresses}
-use Rattle.node_spec.specs.Plan.{IsBare, IsBareRange, IsNodeAt}
+use Rattle.riscv_spec.specs.declared.parcel.Isa.{Isa}
+use Rattle.riscv_spec.specs.declared.parcel.Isa.TheVariants.{Rv32i, Rv32ic}
+use Rattle.report_spec.specs.Inner.{step_of}
+use Rattle.report_spec.specs.Report.{addresses_from, range_addresses}
+use Rattle.node_spec.specs.Plan.{Layout, IsBare, IsBareRange}
 
--- what holds of the words of a range and of the word after it holds of the range with that word
-all-more : (P : ℕ → Type 0) (first count : ℕ) → AllByRecursion P (words_from first count) → P (first + 4 * count)
-    → AllByRecursion P (words_from first (suc count))
-all-more P first zero all next = (subst P (let same : first + 4 * zero ≡ first = omega arith in same) next, tt)
-all-more P first (suc count) all next =
-    let same : first + 4 * suc count ≡ (first + 4) + 4 * count = omega arith in
-    (all.0, all-more P (first + 4) count all.1 (subst P same next))
+-- the address after this many steps
+abbrev pub after : ℕ → ℕ → ℕ → ℕ
+after step first zero = first
+after step first (suc count) = after step (first + step) count
 
--- a range has its last word
-last-word : (first count : ℕ) → Contains (words_from first (suc count)) (first + 4 * count)
-last-word first zero = (0, omega arith, let same : first ≡ first + 4 * zero = omega arith in same)
-last-word first (suc count) =
-    let P : ℕ → Type 0 = λ last. Contains (words_from first (suc (suc count))) last in
-    let same : (first + 4) + 4 * count ≡ first + 4 * suc count = omega arith in
-    let rest = last-word (first + 4) count in
-    subst P same (suc rest.0, omega (arith, rest.1), rest.2)
+-- one step more
+one-more : (step first count : ℕ) → after step first (suc count) ≡ after step first count + step
+one-more step first zero = refl
+one-more step first (suc count) = one-more step (first + step) count
 
--- so far from the first word to this one there is no node
-pub record IsBareTo (image : Image) (nodes : List Node) (first last : ℕ) : Type 0 where
+-- what holds of the addresses of a range and of the one after it holds of the range with that one
+all-more : (P : ℕ → Type 0) (step first count : ℕ) → AllByRecursion P (addresses_from step first count)
+    → P (after step first count) → AllByRecursion P (addresses_from step first (suc count))
+all-more P step first zero all next = (next, tt)
+all-more P step first (suc count) all next = (all.0, all-more P step (first + step) count all.1 next)
+
+-- a range has its last address
+has-last : (step first count : ℕ) → Contains (addresses_from step first (suc count)) (after step first count)
+has-last step first zero = (0, omega arith, refl)
+has-last step first (suc count) =
+    let rest = has-last step (first + step) count in (suc rest.0, omega (arith, rest.1), rest.2)
+
+after-twos : (first count : ℕ) → after 2 first count ≡ first + 2 * count
+after-twos first zero = omega arith
+after-twos first (suc count) = omega (arith, after-twos (first + 2) count)
+
+after-fours : (first count : ℕ) → after 4 first count ≡ first + 4 * count
+after-fours first zero = omega arith
+after-fours first (suc count) = omega (arith, after-fours (first + 4) count)
+
+-- how many addresses a range has
+count-is : (isa : Isa) (first count : ℕ)
+    → (after (step_of isa) first count - first) / step_of isa + 1 ≡ suc count
+count-is Rv32i first count = omega (arith, after-fours first count)
+count-is Rv32ic first count = omega (arith, after-twos first count)
+
+-- so far all addresses from the first to this one are bare
+pub record IsBareTo (layout : Layout) (first last : ℕ) : Type 0 where
   pub count : ℕ
-  pub is : last ≡ first + 4 * count
-  pub words : AllByRecursion (IsBare image nodes) (words_from first (suc count))
+  pub is : last ≡ after (step_of layout.isa) first count
+  pub bare : AllByRecursion (IsBare layout) (addresses_from (step_of layout.isa) first (suc count))
 
--- one word more
-pub bare-more : (image : Image) (nodes : List Node) (first last next : ℕ) → IsBareTo image nodes first last
-    → next ≡ last + 4 → IsBare image nodes next
-    → IsBareTo image nodes first next
-bare-more image nodes first last next so_far is bare = record {
-  count = suc so_far.count;
-  is = omega (arith, so_far.is);
-  words = all-more (IsBare image nodes) first (suc so_far.count) so_far.words
-      (let P : ℕ → Type 0 = IsBare image nodes in let same : next ≡ first + 4 * suc so_far.count = omega
-      (arith, so_far.is) in subst P same bare);
-}
+-- no address of a range is below its first
+up : (step first count : ℕ) → first ≤ after step first count
+up step first zero = omega arith
+up step first (suc count) = omega (arith, up step (first + step) count)
 
--- the range, where the word after it isn't bare
-pub bare-range : (image : Image) (nodes : List Node) (first last : ℕ) → IsBareTo image nodes first last
-    → (IsBare image nodes (last + 4) → ⊥)
-    → IsBareRange image nodes first last
-bare-range image nodes first last whole ends =
-    let count : (last - first) / 4 + 1 ≡ suc whole.count = omega (arith, whole.is) in
-    let same : range_addresses first last ≡ words_from first (suc whole.count) = ap (words_from first) count in
-    let P : List ℕ → Type 0 = λ addresses. AllByRecursion (IsBare image nodes) addresses in
-    let Q : List ℕ → Type 0 = λ addresses. Contains addresses last in
-    let R : ℕ → Type 0 = λ end. Contains (words_from first (suc whole.count)) end in
+pub bare-up : (layout : Layout) (first last : ℕ) → IsBareTo layout first last → first ≤ last
+bare-up layout first last so_far = omega (arith, so_far.is, up (step_of layout.isa) first so_far.count)
+
+-- one address more
+pub bare-more : (layout : Layout) (first last next : ℕ) → IsBareTo layout first last
+    → next ≡ last + step_of layout.isa → IsBare layout next → IsBareTo layout first next
+bare-more layout first last next so_far is bare =
+    let step = step_of layout.isa in
+    let same : next ≡ after step first (suc so_far.count) =
+    is ∙ ap (λ (last : ℕ). last + step) so_far.is ∙ sym (one-more step first so_far.count) in
     record {
-      ends = subst Q (sym same) (subst R (sym whole.is) (last-word first whole.count));
-      words = subst P (sym same) whole.words;
-      greatest = ends;
+      count = suc so_far.count;
+      is = same;
+      bare = all-more (IsBare layout) step first (suc so_far.count) so_far.bare (subst (IsBare layout) same bare);
     }
 
--- where nodes are at the next word, no bare one is right after
-pub node-bare : (image : Image) (nodes : List Node) (address next : ℕ) (here : List ℕ)
-    → IsNextText image (address + 4) (Some next) → next - address ≤ 4
-    → ((n : ℕ) → Contains here n → IsNodeAt nodes next n) → 0 < length here → IsBare image nodes (address + 4) → ⊥
-node-bare image nodes address next here is near at some bare =
-    let same : next ≡ address + 4 = omega (arith, is.1) in
-    let there = at (get_or here 0 0) (Contains-get_or here 0 0 some) in
-    let P : ℕ → Type 0 = λ address. IsNodeAt nodes address (get_or here 0 0) in
-    bare.bare (get_or here 0 0) (subst P same there)
-
--- a fact for the case that nothing is answered
-pub none-where : (here : List ℕ) (b : Bool) (next : ℕ) (r : Option ℕ) (P : Type 0) → r ≡ then_some b next
-    → b ≡ (length here == 0)
-    → (0 < length here → P) → IfNone r P
-none-where here true next r P is empty where_some = let Q : Option ℕ → Type 0 = λ r. IfNone r P in subst Q (sym is) tt
-none-where [] false next r P is empty where_some = absurd (false≢true empty)
-none-where (n ∷ here) false next r P is empty where_some = let Q : Option ℕ → Type 0 =
-    λ r. IfNone r P in subst Q (sym is) (where_some (omega arith))
+-- the range, where the address after it isn't bare
+pub bare-range : (layout : Layout) (first last : ℕ) → IsBareTo layout first last
+    → (IsBare layout (last + step_of layout.isa) → ⊥) → IsBareRange layout first last
+bare-range layout first last whole ends =
+    let step = step_of layout.isa in
+    let same : range_addresses step first last ≡ addresses_from step first (suc whole.count) =
+    ap (λ (last : ℕ). range_addresses step first last) whole.is
+    ∙ ap (addresses_from step first) (count-is layout.isa first whole.count) in
+    let P : List ℕ → Type 0 = λ addresses. AllByRecursion (IsBare layout) addresses in
+    let Q : List ℕ → Type 0 = λ addresses. Contains addresses last in
+    let R : ℕ → Type 0 = λ end. Contains (addresses_from step first (suc whole.count)) end in
+    record {
+      ends = subst Q (sym same) (subst R (sym whole.is) (has-last step first whole.count));
+      bare = subst P (sym same) whole.bare;
+      greatest = ends;
+    }

@@ -5,6 +5,8 @@ use Rattle.std.specs.List.Sorted.{IsNonDecreasingBy}
 use Rattle.transition_spec.specs.Path.{IsSuccessor}
 use Rattle.path_model.specs.declared.graph.Node.{Node}
 use Rattle.path_model.specs.Graph.{graph_step, address_of}
+use Rattle.flow_spec.specs.Configuration.{Configuration, fetched}
+use Rattle.call_expand.specs.Expansion.{numbered}
 
 -- the numbers of the nodes, and for each node but the first the number of a smaller one that it follows
 pub record Kept : Type 0 where
@@ -16,6 +18,11 @@ pub record AreInOrder (nodes : List Node) (order : List ℕ) : Type 0 where
   pub one_each : length order ≡ length nodes
   pub rising : IsNonDecreasingBy (address_of nodes) order
   pub members : (n : ℕ) → Contains order n ↔ (n < length nodes)
+
+-- each node has a configuration, and the address that this one fetches
+pub record AreFetched (configurations : List Configuration) (nodes : List Node) : Type 0 where
+  pub one_each : length configurations ≡ length nodes
+  pub fetches : (n : ℕ) → n < length nodes → address_of nodes n ≡ fetched (numbered configurations n)
 
 -- at the place of each node but the first stands the number of a smaller one that it follows
 pub record AreBefore (nodes : List Node) (before : List ℕ) : Type 0 where

@@ -7,10 +7,10 @@
 
 mod before;
 mod copies;
+mod layout;
 mod merge;
 mod order;
 mod plan;
-mod range;
 #[cfg(test)]
 mod tests;
 

@@ -1,18 +1,16 @@
 // The order of the nodes, and the line at a cursor.
 ghost use Rattle.std.specs.Prelude.{◌≡◌, ◌<◌, length, true, false, option_map, IfOk, IfSome};
-ghost use Rattle.elf_spec.specs.Word.{IsText};
-ghost use Rattle.node_spec.specs.Plan.{IsByAddress, IsByNumber, IsLineAt, IsLineOf, last_of};
+ghost use Rattle.node_spec.specs.Plan.{HasLineIn, IsByAddress, IsByNumber, IsLineAt, IsLineOf, last_of, layout};
 ghost use Rattle.report_plan.specs.Kept.{IsPlanOf};
 ghost use Rattle.report_plan.specs.Valid.{IsValidWith};
 
 use crate::before::Befores;
 use crate::copies::copy_verdict;
+use crate::layout::{Layout, line_after, line_from, range_end};
 use crate::merge::merged;
 use crate::order::in_order;
-use crate::range::{range_end, word_after};
-use call_expand::{Expanded, Frame};
+use call_expand::{Expanded, Frame, Isa};
 use elf_image::Image;
-use path_model::Graph;
 use report_spec::{Line, Verdict};
 use std::alloc::{AllocError, Global};
 use std::marker::Model;
@@ -56,12 +54,13 @@ impl Plan {
         &self.before
     }
 
-    /// The line at a cursor, and the cursor after it, if there is one. The plan is of this program, which has one verdict
-    /// for each node. Where the verdicts are valid, so is the line.
+    /// The line at a cursor, and the cursor after it, if there is one. The plan is of this program, whose instructions
+    /// are those of `isa` and which has one verdict for each node. Where the verdicts are valid, so is the line.
     ///
-    /// With `contexts` a cursor is the number of a node, and the line is that node's. Else it is an address, and the line
-    /// is that of the least address of the text from it on: the one verdict of all nodes there, or the whole range of
-    /// words without nodes that begins there. `None` exactly where no node, or no address of the text, is left.
+    /// With `contexts` a cursor is the number of a node, and the line is that node's. Else it is an address, and the
+    /// line is that of the least address with a line from it on, which is an address of the text that isn't in the
+    /// middle of an instruction fetched at once: the one verdict of all nodes there, or the whole range of addresses
+    /// without nodes that begins there. `None` exactly where no node, or no address with a line, is left.
     ///
     /// The error is out of memory for the ways of the line. Takes time in the order of the range, or of the nodes where
     /// a way has to be made.
@@ -69,6 +68,7 @@ impl Plan {
         &self,
         alloc: Global,
         image: &Image,
+        isa: Isa,
         expanded: &Expanded,
         verdicts: &[Verdict],
         contexts: bool,
@@ -78,59 +78,62 @@ impl Plan {
         requires one_each { length verdicts.now ≡ length expanded.now.nodes }
         ensures valid { IfOk result (λ found. IfSome found (λ at. IsValidWith verdicts.now at.0)) }
         ensures by_address { contexts ≡ false → IfOk result (λ found.
-            IsByAddress image.now expanded.now.nodes verdicts.now from found) }
+            IsByAddress (layout image.now isa expanded.now.configurations expanded.now.nodes) verdicts.now from found) }
         ensures by_number { contexts ≡ true → IfOk result (λ found.
             IsByNumber expanded.now.configurations verdicts.now from found) }
     {
         if contexts {
-            line_by_number(alloc, expanded, verdicts, from)
-        } else {
-            self.line_by_address(alloc, image, expanded.graph(), verdicts, from)
+            return line_by_number(alloc, expanded, verdicts, from);
         }
+        let layout = Layout {
+            image,
+            isa,
+            expanded,
+            order: &self.order,
+        };
+        self.line_by_address(alloc, &layout, verdicts, from)
     }
 
-    // The line of the least address of the text from one on, and the next address of the text after it.
+    // The line of the least address with a line from one on, and the next address with a line after it.
     fn line_by_address(
         &self,
         alloc: Global,
-        image: &Image,
-        graph: &Graph,
+        layout: &Layout,
         verdicts: &[Verdict],
         from: u32,
     ) -> Result<Option<(Line, Option<u32>)>, AllocError>
-        requires plan { IsPlanOf graph.now self.now }
-        requires one_each { length verdicts.now ≡ length graph.now }
+        requires plan { IsPlanOf layout.now.nodes self.now }
+        requires one_each { length verdicts.now ≡ length layout.now.nodes }
         ensures valid { IfOk result (λ found. IfSome found (λ at. IsValidWith verdicts.now at.0)) }
-        ensures by_address { IfOk result (λ found. IsByAddress image.now graph.now verdicts.now from found) }
+        ensures by_address { IfOk result (λ found. IsByAddress layout.now verdicts.now from found) }
     {
-        let Some(at) = image.word_from(from) else {
+        let Some(at) = line_from(layout, from) else {
             return Ok(None);
         };
-        let line = self.line_at(alloc, image, graph, verdicts, at)?;
-        let next = word_after(image, last_of(&line));
+        let line = self.line_at(alloc, layout, verdicts, at)?;
+        let next = line_after(layout, last_of(&line));
         Ok(Some((line, next)))
     }
 
-    // The line that begins at an address of the text.
+    // The line that begins at an address that has one.
     fn line_at(
         &self,
         alloc: Global,
-        image: &Image,
-        graph: &Graph,
+        layout: &Layout,
         verdicts: &[Verdict],
         at: u32,
     ) -> Result<Line, AllocError>
-        requires plan { IsPlanOf graph.now self.now }
-        requires one_each { length verdicts.now ≡ length graph.now }
-        requires text { IsText image.now at }
+        requires plan { IsPlanOf layout.now.nodes self.now }
+        requires one_each { length verdicts.now ≡ length layout.now.nodes }
+        requires line { HasLineIn layout.now at }
         ensures valid { IfOk result (IsValidWith verdicts.now) }
-        ensures line { IfOk result (IsLineAt image.now graph.now verdicts.now at) }
+        ensures line { IfOk result (IsLineAt layout.now verdicts.now at) }
     {
-        match merged(alloc, graph, self, verdicts, at)? {
+        match merged(alloc, layout.expanded.graph(), self, verdicts, at)? {
             Some(verdict) => Ok(Line::At { at, verdict }),
             None => Ok(Line::Unreachable {
                 first: at,
-                last: range_end(&self.order, image, graph.nodes(), at),
+                last: range_end(layout, at),
             }),
         }
     }
@@ -175,15 +178,13 @@ fn context_line(
 ) -> Result<Line, AllocError>
     requires inside { node < length expanded.now.nodes }
     requires one_each { length verdicts.now ≡ length expanded.now.nodes }
-    requires configurations { length expanded.now.configurations ≡ length expanded.now.nodes }
     ensures valid { IfOk result (IsValidWith verdicts.now) }
     ensures line { IfOk result (IsLineOf expanded.now.configurations verdicts.now node) }
 {
-    let config = expanded.config(node);
     Ok(Line::Context {
         node,
-        at: config.at,
-        depth: config.depth,
+        at: expanded.graph().nodes()[node as usize].at,
+        depth: expanded.config(node).depth,
         back: back_of(expanded.top(node)),
         verdict: copy_verdict(alloc, &verdicts[node as usize])?,
     })

@@ -1,7 +1,7 @@
-ghost use Rattle.std.specs.Prelude.{◌≤◌, length};
+ghost use Rattle.std.specs.Prelude.{◌<◌, ◌≤◌, length};
 
 use crate::Plan;
-use call_expand::expand;
+use call_expand::{Isa, expand};
 use elf_image::Image;
 use report_spec::{Choices, Line, Verdict, Way};
 use std::alloc::{AllocError, Global};
@@ -35,8 +35,10 @@ fn wrap(alloc: Global, words: &[u32]) -> Result<Vec<u8>, AllocError>
     Ok(file)
 }
 
-fn image_of(rt: &(impl Abort + AllocGlobal)) -> Result<Image, Fail> {
-    let file = wrap(rt.alloc(), &WORDS)?;
+fn image_of(rt: &(impl Abort + AllocGlobal), words: &[u32]) -> Result<Image, Fail>
+    requires { length words.now ≤ 64 }
+{
+    let file = wrap(rt.alloc(), words)?;
     assert!(rt; file.len() <= 16_777_216);
     Ok(elf_image::read(rt.alloc(), file)?)
 }
@@ -114,12 +116,20 @@ fn check(
     expected: Option<(&str, Option<u32>)>,
 ) -> Result<(), Fail> {
     let alloc = rt.alloc();
-    let image = image_of(rt)?;
-    let expanded = expand(alloc, &image, image.entry())?;
+    let image = image_of(rt, &WORDS)?;
+    let expanded = expand(alloc, &image, image.entry(), Isa::Rv32i, 32)?;
     let plan = Plan::new(alloc, &expanded)?;
     let verdicts = verdicts_of(alloc)?;
     assert!(rt; verdicts.len() == expanded.graph().nodes().len());
-    let found = plan.line(alloc, &image, &expanded, &verdicts, contexts, from)?;
+    let found = plan.line(
+        alloc,
+        &image,
+        Isa::Rv32i,
+        &expanded,
+        &verdicts,
+        contexts,
+        from,
+    )?;
     match (found, expected) {
         (Some((line, next)), Some((text, cursor))) => {
             let shown = line_text(alloc, &line)?;
@@ -129,6 +139,46 @@ fn check(
         (None, None) => {}
         _ => assert!(rt; false, "at {from:x}"),
     }
+    Ok(())
+}
+
+// The lines by address of a program with compressed instructions, one after another, where each node always hits.
+fn check_compressed(
+    rt: &(impl Abort + AllocGlobal),
+    words: &[u32],
+    line: u32,
+    expected: &[&str],
+) -> Result<(), Fail>
+    requires few { length words.now ≤ 64 }
+    requires some { 0 < line }
+{
+    let alloc = rt.alloc();
+    let image = image_of(rt, words)?;
+    let expanded = expand(alloc, &image, image.entry(), Isa::Rv32ic, line)?;
+    let plan = Plan::new(alloc, &expanded)?;
+    let mut verdicts = Vec::new(alloc);
+    for _ in expanded.graph().nodes() {
+        verdicts.push(Verdict::AlwaysHit)?;
+    }
+    assert!(rt; verdicts.len() == expanded.graph().nodes().len());
+    let mut cursor = Some(0);
+    for text in expected {
+        let from = cursor.expect(rt, "a cursor");
+        let found = plan.line(
+            alloc,
+            &image,
+            Isa::Rv32ic,
+            &expanded,
+            &verdicts,
+            false,
+            from,
+        )?;
+        let (found, next) = found.expect(rt, "a line");
+        let shown = line_text(alloc, &found)?;
+        assert!(rt; shown.as_str() == *text, "at {from:x}: {shown}");
+        cursor = next;
+    }
+    assert!(rt; cursor.is_none());
     Ok(())
 }
 
@@ -172,4 +222,20 @@ fn each_node_has_its_own_line_among_contexts(rt: HostRuntime) -> Result<(), Fail
         check(&rt, true, from, line)?;
     }
     Ok(())
+}
+
+// Two bytes, then four, then a stop.
+#[test]
+fn middle_of_four_bytes_has_a_line_where_it_is_fetched(rt: HostRuntime) -> Result<(), Fail> {
+    let words = [0x00130001, 0x90020000];
+    check_compressed(&rt, &words, 16, &["10000 hit", "10002 hit", "10006 hit"])?;
+    let split = ["10000 hit", "10002 hit", "10004 hit", "10006 hit"];
+    check_compressed(&rt, &words, 4, &split)
+}
+
+// A call of the third two bytes, a stop, a return, and two bytes that nothing leads to.
+#[test]
+fn ranges_of_parcels_end_at_a_parcel(rt: HostRuntime) -> Result<(), Fail> {
+    let expected = ["10000 hit", "10002 hit", "10004 hit", "10006 to 10006"];
+    check_compressed(&rt, &[0x90022011, 0x00018082], 16, &expected)
 }

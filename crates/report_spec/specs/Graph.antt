@@ -1,9 +1,9 @@
 -- Which text is that of a program's graph: a line for each configuration, in order of number. This project's own format.
 use Rattle.std.specs.Prelude.{◌≡◌, ℕ, ◌+◌, List, [], ◌∷◌, ◌++◌, length, map, flat_map, Option, Some, None, Ok, option_map, slice_get, codes, decimal}
 use Rattle.std.specs.Option.{option_to_list}
-use Rattle.elf_spec.specs.Image.{Image}
 use Rattle.transition_spec.specs.Layer.{all_of}
-use Rattle.flow_spec.specs.Configuration.{Configuration}
+use Rattle.flow_spec.specs.Program.{Program}
+use Rattle.flow_spec.specs.Configuration.{Configuration, fetched}
 use Rattle.flow_spec.specs.Successors.{successors, newest}
 use Rattle.flow_spec.specs.Acceptance.{Step, IsAccepted}
 use Rattle.report_spec.specs.declared.graph_line.GraphLine.{GraphLine}
@@ -23,7 +23,7 @@ graph_line_text line = context_text line.node line.at line.depth line.back ++ ed
 pub record IsGraphLine (step : Step) (configurations : List Configuration) (number : ℕ) (c : Configuration)
     (line : GraphLine) : Type 0 where
   pub node : line.node ≡ number
-  pub at : line.at ≡ c.at
+  pub at : line.at ≡ fetched c
   pub depth : line.depth ≡ length c.frames
   pub back : line.back ≡ option_map (λ frame. frame.back) (newest c.frames)
   pub first : line.next ≡ None → line.taken ≡ None
@@ -39,8 +39,8 @@ AreGraphLines step configurations number [] (line ∷ lines) = ⊥
 AreGraphLines step configurations number (c ∷ later) [] = ⊥
 
 -- the text is that of the graph of the program that begins at the entry
-abbrev pub IsGraphText : Image → ℕ → List ℕ → Type 0
-IsGraphText image entry text =
-    (layers : List (List Configuration)) × IsAccepted (successors image entry) image entry layers
-    × ((lines : List GraphLine) × AreGraphLines (successors image entry) (all_of layers) 0 (all_of layers) lines
+abbrev pub IsGraphText : Program → List ℕ → Type 0
+IsGraphText program text =
+    (layers : List (List Configuration)) × IsAccepted (successors program) program layers
+    × ((lines : List GraphLine) × AreGraphLines (successors program) (all_of layers) 0 (all_of layers) lines
     × (text ≡ flat_map graph_line_text lines))

@@ -53,7 +53,7 @@ flow_text flow.OutOfMemory = codes "out of memory"
 
 abbrev pub usage_text : List ℕ
 usage_text =
-    codes "usage\n  icache classify [--line N] [--sets N] [--ways N] [--workers N] [--nodes N] [--entry 0xN] [--contexts] [--start empty|any]\n  icache graph [--entry 0xN]\n  icache sample --number N [--size N] [--line N] [--sets N] [--ways N] [--workers N] [--nodes N]"
+    codes "usage\n  icache classify [--line N] [--sets N] [--ways N] [--workers N] [--nodes N] [--entry 0xN] [--contexts] [--start empty|any] [--isa rv32i|rv32ic]\n  icache graph [--entry 0xN] [--line N] [--isa rv32i|rv32ic]\n  icache sample --number N [--size N] [--line N] [--sets N] [--ways N] [--workers N] [--nodes N]"
 
 unfoldable pub cause_text : Status → List ℕ
 cause_text Done = codes "done"

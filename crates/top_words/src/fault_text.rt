@@ -8,8 +8,8 @@ use elf_spec::ElfFault;
 use flow_spec::FlowFault;
 
 const USAGE: &[u8] = b"usage
-  icache classify [--line N] [--sets N] [--ways N] [--workers N] [--nodes N] [--entry 0xN] [--contexts] [--start empty|any]
-  icache graph [--entry 0xN]
+  icache classify [--line N] [--sets N] [--ways N] [--workers N] [--nodes N] [--entry 0xN] [--contexts] [--start empty|any] [--isa rv32i|rv32ic]
+  icache graph [--entry 0xN] [--line N] [--isa rv32i|rv32ic]
   icache sample --number N [--size N] [--line N] [--sets N] [--ways N] [--workers N] [--nodes N]";
 
 /// What standard error gets at a status, the line end included. Takes no memory.

@@ -2,9 +2,9 @@ use crate::{Status, read_words, text_of};
 use byte_port::{ReadStop, SinkFault};
 use cache_geom::Geometry;
 use cache_spec::Start;
-use command_spec::{Ask, ReportAsk, Settings};
+use command_spec::{Ask, GraphAsk, ReportAsk, Settings};
 use elf_spec::ElfFault;
-use flow_spec::FlowFault;
+use flow_spec::{FlowFault, Isa};
 use std::alloc::{AllocError, Global};
 use std::test::Fail;
 
@@ -20,6 +20,7 @@ fn gives(alloc: Global, line: &str, wanted: &Option<Settings>) -> Result<bool, A
 /// The settings of `classify` with these line, sets and ways.
 fn classify(
     shape: (u32, u32, u32),
+    isa: Isa,
     start: Start,
     entry: Option<u32>,
     contexts: bool,
@@ -28,6 +29,7 @@ fn classify(
     let geometry = Geometry::new(line, sets, ways)?;
     let ask = Ask::Report(ReportAsk {
         geometry,
+        isa,
         start,
         contexts,
     });
@@ -54,7 +56,7 @@ fn options_have_defaults_and_stand_in_any_order(rt: HostRuntime) -> Result<(), F
             Some(0xfffffff0),
         ),
     ] {
-        let wanted = classify(shape, Start::Empty, entry, false);
+        let wanted = classify(shape, Isa::Rv32i, Start::Empty, entry, false);
         assert!(rt; gives(rt.alloc(), line, &wanted)?, "at {line}");
     }
     Ok(())
@@ -72,7 +74,7 @@ fn contexts_has_no_value_and_stands_anywhere(rt: HostRuntime) -> Result<(), Fail
         ("classify --sets 1 --contexts --ways 1", (32, 1, 1), None),
         ("classify --ways 2 --contexts", (32, 64, 2), None),
     ] {
-        let wanted = classify(shape, Start::Empty, entry, true);
+        let wanted = classify(shape, Isa::Rv32i, Start::Empty, entry, true);
         assert!(rt; gives(rt.alloc(), line, &wanted)?, "at {line}");
     }
     Ok(())
@@ -85,7 +87,7 @@ fn the_start_is_empty_unless_it_is_any(rt: HostRuntime) -> Result<(), Fail> {
         ("classify --start empty", Start::Empty),
         ("classify --start any", Start::Any),
     ] {
-        let wanted = classify((32, 64, 4), start, None, false);
+        let wanted = classify((32, 64, 4), Isa::Rv32i, start, None, false);
         assert!(rt; gives(rt.alloc(), line, &wanted)?, "at {line}");
     }
     Ok(())
@@ -99,7 +101,20 @@ fn start_stands_anywhere(rt: HostRuntime) -> Result<(), Fail> {
         "classify --entry 0x10 --contexts --start any --line 16",
         "classify --contexts --entry 0x10 --line 16 --start any",
     ] {
-        let wanted = classify((16, 64, 4), Start::Any, Some(0x10), true);
+        let wanted = classify((16, 64, 4), Isa::Rv32i, Start::Any, Some(0x10), true);
+        assert!(rt; gives(rt.alloc(), line, &wanted)?, "at {line}");
+    }
+    Ok(())
+}
+
+#[test]
+fn a_report_may_have_an_isa(rt: HostRuntime) -> Result<(), Fail> {
+    for (line, isa) in [
+        ("classify --isa rv32i", Isa::Rv32i),
+        ("classify --isa rv32ic", Isa::Rv32ic),
+        ("classify --line 32 --isa rv32ic --sets 64", Isa::Rv32ic),
+    ] {
+        let wanted = classify((32, 64, 4), isa, Start::Empty, None, false);
         assert!(rt; gives(rt.alloc(), line, &wanted)?, "at {line}");
     }
     Ok(())
@@ -129,9 +144,21 @@ fn another_start_gives_no_settings(rt: HostRuntime) -> Result<(), Fail> {
 }
 
 #[test]
-fn a_graph_may_have_an_entry(rt: HostRuntime) -> Result<(), Fail> {
-    for (line, entry) in [("graph", None), ("graph --entry 0x0001000a", Some(0x1000a))] {
-        let ask = Ask::Graph;
+fn a_graph_may_have_an_entry_a_line_and_an_isa(rt: HostRuntime) -> Result<(), Fail> {
+    for (line, entry, isa, bytes) in [
+        ("graph", None, Isa::Rv32i, 32),
+        ("graph --entry 0x0001000a", Some(0x1000a), Isa::Rv32i, 32),
+        ("graph --isa rv32i", None, Isa::Rv32i, 32),
+        ("graph --isa rv32ic", None, Isa::Rv32ic, 32),
+        ("graph --line 4", None, Isa::Rv32i, 4),
+        (
+            "graph --line 256 --entry 0x10 --isa rv32ic",
+            Some(0x10),
+            Isa::Rv32ic,
+            256,
+        ),
+    ] {
+        let ask = Ask::Graph(GraphAsk { isa, line: bytes });
         let wanted = Some(Settings { entry, ask });
         assert!(rt; gives(rt.alloc(), line, &wanted)?, "at {line}");
     }
@@ -143,7 +170,6 @@ fn other_arguments_give_no_settings(rt: HostRuntime) -> Result<(), Fail> {
     for line in [
         "",
         "--help",
-        "graph --line 16",
         "graph 0x10000",
         "--line 16 classify",
         "classify --ways 0",
@@ -170,7 +196,20 @@ fn other_arguments_give_no_settings(rt: HostRuntime) -> Result<(), Fail> {
         "classify --contexts --line 16 --contexts",
         "classify --contexts 1",
         "classify --line --contexts",
+        "classify --isa rv64",
         "graph --contexts",
+        "graph --sets 1",
+        "graph --isa",
+        "graph --isa rv64",
+        "graph --isa rv32",
+        "graph --isa RV32I",
+        "graph --isa rv32i --isa rv32i",
+        "graph --line",
+        "graph --line 2",
+        "graph --line 3",
+        "graph --line 512",
+        "graph --line 4294967328",
+        "graph --line 32 --line 32",
     ] {
         assert!(rt; gives(rt.alloc(), line, &None)?, "at {line}");
     }
@@ -199,8 +238,8 @@ fn each_status_has_its_code_and_its_text(rt: HostRuntime) {
 #[test]
 fn the_usage_has_a_line_for_each_command(rt: HostRuntime) {
     let usage = "icache: usage
-  icache classify [--line N] [--sets N] [--ways N] [--workers N] [--nodes N] [--entry 0xN] [--contexts] [--start empty|any]
-  icache graph [--entry 0xN]
+  icache classify [--line N] [--sets N] [--ways N] [--workers N] [--nodes N] [--entry 0xN] [--contexts] [--start empty|any] [--isa rv32i|rv32ic]
+  icache graph [--entry 0xN] [--line N] [--isa rv32i|rv32ic]
   icache sample --number N [--size N] [--line N] [--sets N] [--ways N] [--workers N] [--nodes N]
 ";
     assert_eq!(rt; text_of(&Status::Usage).as_bytes(), usage.as_bytes());

@@ -1,13 +1,15 @@
 // The settings that the arguments of a command line give.
 ghost use Rattle.std.specs.Prelude.{◌≡◌};
-ghost use Rattle.command_spec.specs.Settings.{ask_in, command_of, command_settings, entry_in, geometry_in, geometry_of, number_at, report_in, settings_of, start_in};
+ghost use Rattle.cache_spec.specs.Geometry.{is_line};
+ghost use Rattle.command_spec.specs.Settings.{ask_in, command_of, command_settings, entry_in, geometry_in, geometry_of, graph_in, graph_of, isa_in, line_in, number_at, report_in, settings_of, start_in};
 ghost use Rattle.top_words.specs.Views.{bytes_of};
 
 use crate::number::{address_of, number_of};
 use crate::options::{has_option, is_plain, value_of};
 use cache_geom::Geometry;
 use cache_spec::Start;
-use command_spec::{Ask, Command, ReportAsk, Settings};
+use command_spec::{Ask, Command, GraphAsk, ReportAsk, Settings};
+use flow_spec::Isa;
 
 /// The settings that the arguments give. `None` where they aren't in plain form, name no command that is built, or have a
 /// value out of its range. The arguments lack the program's name.
@@ -46,7 +48,7 @@ fn ask_in(command: Command, arguments: &[String]) -> Option<Ask>
 {
     match command {
         Command::Classify => report_in(arguments),
-        Command::Graph => Some(Ask::Graph),
+        Command::Graph => graph_in(arguments),
     }
 }
 
@@ -54,10 +56,12 @@ fn report_in(arguments: &[String]) -> Option<Ask>
     ensures { result ≡ report_in (bytes_of arguments.now) }
 {
     let geometry = geometry_in(arguments)?;
+    let isa = isa_in(Command::Classify, arguments)?;
     let start = start_in(arguments)?;
     let contexts = has_option(Command::Classify, arguments, "--contexts");
     Some(Ask::Report(ReportAsk {
         geometry,
+        isa,
         start,
         contexts,
     }))
@@ -87,17 +91,24 @@ fn entry_in(command: Command, arguments: &[String]) -> Option<Option<u32>>
 fn geometry_in(arguments: &[String]) -> Option<Geometry>
     ensures { result ≡ geometry_in (bytes_of arguments.now) }
 {
-    let line = number_at(arguments, "--line", 32)?;
-    let sets = number_at(arguments, "--sets", 64)?;
-    let ways = number_at(arguments, "--ways", 4)?;
+    let line = line_in(Command::Classify, arguments)?;
+    let sets = number_at(Command::Classify, arguments, "--sets", 64)?;
+    let ways = number_at(Command::Classify, arguments, "--ways", 4)?;
     geometry_of(line, sets, ways)
 }
 
-/// The number after a name of `classify`, or the default where the name isn't there.
-fn number_at(arguments: &[String], name: &str, default: u64) -> Option<u64>
-    ensures { result ≡ number_at name.now default (bytes_of arguments.now) }
+/// How many bytes a line is to have, in its range or not.
+fn line_in(command: Command, arguments: &[String]) -> Option<u64>
+    ensures { result ≡ line_in command (bytes_of arguments.now) }
 {
-    match value_of(Command::Classify, arguments, name) {
+    number_at(command, arguments, "--line", 32)
+}
+
+/// The number after a name of the command, or the default where the name isn't there.
+fn number_at(command: Command, arguments: &[String], name: &str, default: u64) -> Option<u64>
+    ensures { result ≡ number_at command name.now default (bytes_of arguments.now) }
+{
+    match value_of(command, arguments, name) {
         None => Some(default),
         Some(text) => number_of(text),
     }
@@ -111,4 +122,40 @@ fn geometry_of(line: u64, sets: u64, ways: u64) -> Option<Geometry>
         return None;
     }
     Geometry::new(line as u32, sets as u32, ways as u32)
+}
+
+fn graph_in(arguments: &[String]) -> Option<Ask>
+    ensures { result ≡ graph_in (bytes_of arguments.now) }
+{
+    let isa = isa_in(Command::Graph, arguments)?;
+    let line = line_in(Command::Graph, arguments)?;
+    graph_of(isa, line)
+}
+
+/// The instructions that the arguments of a command name. `None` where their value names none known.
+fn isa_in(command: Command, arguments: &[String]) -> Option<Isa>
+    ensures { result ≡ isa_in command (bytes_of arguments.now) }
+{
+    match value_of(command, arguments, "--isa") {
+        None | Some("rv32i") => Some(Isa::Rv32i),
+        Some("rv32ic") => Some(Isa::Rv32ic),
+        Some(_) => None,
+    }
+}
+
+fn graph_of(isa: Isa, line: u64) -> Option<Ask>
+    ensures { result ≡ graph_of isa line }
+{
+    let line = u32::try_from(line).ok()?;
+    if !is_line(line) {
+        return None;
+    }
+    Some(Ask::Graph(GraphAsk { isa, line }))
+}
+
+/// Whether a geometry may have lines of this size, in bytes.
+fn is_line(line: u32) -> bool
+    ensures { result ≡ is_line line }
+{
+    Geometry::new(line, 1, 1).is_some()
 }

@@ -10,15 +10,15 @@ use Rattle.cache_spec.specs.declared.start.Start.TheVariants.{Empty}
 use Rattle.cache_spec.specs.Contents.{ends_in_hit}
 use Rattle.cache_spec.specs.Start.{CanEnd}
 use Rattle.cache_spec.proofs.Starts.{can_miss}
-use Rattle.flow_spec.specs.Configuration.{Configuration, start_of}
+use Rattle.flow_spec.specs.Configuration.{Configuration, start_of, fetched}
 use Rattle.flow_spec.specs.Next.{next_at}
 use Rattle.flow_spec.specs.Successors.{successors}
 use Rattle.transition_spec.specs.Path.{IsPath}
 use Rattle.report_spec.specs.declared.line.Verdict.TheVariants.{AlwaysHit, Unknown}
 use Rattle.report_spec.specs.Right.{EndsIn, Fetches, NamesFate, IsRight, fetches_of}
-use Rattle.report_spec.specs.Report.{IsUnreached}
+use Rattle.report_spec.specs.Inner.{IsUnreached}
 use Rattle.worked_examples.specs.Caches.{geometry}
-use Rattle.worked_examples.specs.Programs.{program_of, at, loop_and_rest}
+use Rattle.worked_examples.specs.Programs.{as_words, at, loop_and_rest}
 use Rattle.worked_examples.specs.Texts.{way}
 use Rattle.worked_examples.proofs.Moves.{step, IsAmong, among}
 
@@ -30,7 +30,7 @@ hits_only g start addresses hits can = let misses = (can_miss g start addresses)
 -- the path to the first word of a program can end as its one fetch can
 pub alone : (words : List ℕ) (start : Start) (Ends : Configuration → Type 0) (hits : Bool) → Ends (at 0x10000)
     → CanEnd (geometry 16 1 1) start (0x10000 ∷ []) hits
-    → NamesFate (program_of words) 0x10000 (geometry 16 1 1) start Ends (way 1 []) hits
+    → NamesFate (as_words 16 words) (geometry 16 1 1) start Ends (way 1 []) hits
 alone words start Ends hits ends can = record {
   path = at 0x10000 ∷ [];
   ends_in = record { last = at 0x10000; earlier = []; path_is = refl; is_path = refl; ends = ends };
@@ -39,10 +39,10 @@ alone words start Ends hits ends can = record {
 }
 
 -- the three words lie in one block
-block_is : (c : Configuration) → IsAmong c → c.at / 16 ≡ 4096
-block_is c (inl is) = ap (λ (c : Configuration). c.at / 16) is
-block_is c (inr (inl is)) = ap (λ (c : Configuration). c.at / 16) is
-block_is c (inr (inr is)) = ap (λ (c : Configuration). c.at / 16) is
+block_is : (c : Configuration) → IsAmong c → fetched c / 16 ≡ 4096
+block_is c (inl is) = ap (λ (c : Configuration). fetched c / 16) is
+block_is c (inr (inl is)) = ap (λ (c : Configuration). fetched c / 16) is
+block_is c (inr (inr is)) = ap (λ (c : Configuration). fetched c / 16) is
 
 same_block : (p q : ℕ) (addresses : List ℕ) → p / 16 ≡ 4096 → q / 16 ≡ 4096
     → ends_in_hit (geometry 16 1 1) (q ∷ p ∷ addresses) ≡ true
@@ -50,42 +50,42 @@ same_block p q addresses before now = rw (before, now) refl
 
 -- each path but the shortest ends in a hit
 longer_hits : (c : Configuration) (earlier : List Configuration) → IsPath step (start_of 0x10000) (c ∷ earlier)
-    → (c.at ≡ 0x10000 → ⊥)
+    → (fetched c ≡ 0x10000 → ⊥)
     → ends_in_hit (geometry 16 1 1) (fetches_of (c ∷ earlier)) ≡ true
-longer_hits c [] path other = absurd (other (ap (λ (c : Configuration). c.at) path))
+longer_hits c [] path other = absurd (other (ap fetched path))
 longer_hits c (b ∷ earlier) path other =
-    same_block b.at c.at (fetches_of earlier) (block_is b (among earlier b path.1))
+    same_block (fetched b) (fetched c) (fetches_of earlier) (block_is b (among earlier b path.1))
     (block_is c (among (b ∷ earlier) c path))
 
 -- the configurations are somewhere else than at the entry
 abbrev pub AreElsewhere : (Configuration → Type 0) → Type 0
-AreElsewhere Ends = (d : Configuration) → Ends d → d.at ≡ 0x10000 → ⊥
+AreElsewhere Ends = (d : Configuration) → Ends d → fetched d ≡ 0x10000 → ⊥
 
 each_hits : (Ends : Configuration → Type 0) → AreElsewhere Ends → (addresses : List ℕ)
-    → Fetches (program_of loop_and_rest) 0x10000 Ends addresses → ends_in_hit (geometry 16 1 1) addresses ≡ true
+    → Fetches (as_words 16 loop_and_rest) Ends addresses → ends_in_hit (geometry 16 1 1) addresses ≡ true
 each_hits Ends elsewhere addresses (path, ends, is) =
     let P : List Configuration → Type 0 = λ path. IsPath step (start_of 0x10000) path in
     ap (λ addresses. ends_in_hit (geometry 16 1 1) addresses) (is ∙ ap fetches_of ends.path_is)
     ∙ longer_hits ends.last ends.earlier (subst P ends.path_is ends.is_path) (elsewhere ends.last ends.ends)
 
 none_misses : (Ends : Configuration → Type 0) → AreElsewhere Ends → (addresses : List ℕ)
-    → Fetches (program_of loop_and_rest) 0x10000 Ends addresses → CanEnd (geometry 16 1 1) Empty addresses false → ⊥
+    → Fetches (as_words 16 loop_and_rest) Ends addresses → CanEnd (geometry 16 1 1) Empty addresses false → ⊥
 none_misses Ends elsewhere addresses fetches =
     hits_only (geometry 16 1 1) Empty addresses (each_hits Ends elsewhere addresses fetches)
 
-address_is : (c : Configuration) → IsAmong c → c.at ≡ 0x1000c → ⊥
-address_is c (inl is) there = let e = ap (λ (c : Configuration). c.at) is in omega arith
-address_is c (inr (inl is)) there = let e = ap (λ (c : Configuration). c.at) is in omega arith
-address_is c (inr (inr is)) there = let e = ap (λ (c : Configuration). c.at) is in omega arith
+address_is : (c : Configuration) → IsAmong c → fetched c ≡ 0x1000c → ⊥
+address_is c (inl is) there = let e = ap fetched is in omega arith
+address_is c (inr (inl is)) there = let e = ap fetched is in omega arith
+address_is c (inr (inr is)) there = let e = ap fetched is in omega arith
 
 -- no path reaches the word after
-pub unreached : IsUnreached (program_of loop_and_rest) 0x10000 0x1000c
+pub unreached : IsUnreached (as_words 16 loop_and_rest) 0x1000c
 unreached addresses (path, ends, is) =
     let P : List Configuration → Type 0 = λ path. IsPath step (start_of 0x10000) path in
     address_is ends.last (among ends.earlier ends.last (subst P ends.path_is ends.is_path)) ends.ends
 
 module _ (Ends : Configuration → Type 0) where
-  once_to : Ends (at 0x10004) → EndsIn (program_of loop_and_rest) 0x10000 Ends (at 0x10004 ∷ at 0x10000 ∷ [])
+  once_to : Ends (at 0x10004) → EndsIn (as_words 16 loop_and_rest) Ends (at 0x10004 ∷ at 0x10000 ∷ [])
   unfolding successors next_at word_at kind_of pair_of
   once_to ends = record {
     last = at 0x10004;
@@ -96,7 +96,7 @@ module _ (Ends : Configuration → Type 0) where
   }
 
   through : Ends (at 0x10008)
-      → EndsIn (program_of loop_and_rest) 0x10000 Ends (at 0x10008 ∷ at 0x10004 ∷ at 0x10000 ∷ [])
+      → EndsIn (as_words 16 loop_and_rest) Ends (at 0x10008 ∷ at 0x10004 ∷ at 0x10000 ∷ [])
   unfolding successors next_at word_at kind_of pair_of
   through ends = record {
     last = at 0x10008;
@@ -107,15 +107,15 @@ module _ (Ends : Configuration → Type 0) where
   }
 
   pub second_right : Ends (at 0x10004) → AreElsewhere Ends
-      → IsRight (program_of loop_and_rest) 0x10000 (geometry 16 1 1) Empty Ends AlwaysHit
+      → IsRight (as_words 16 loop_and_rest) (geometry 16 1 1) Empty Ends AlwaysHit
   second_right ends elsewhere = record { some = (_, (_, once_to ends, refl)); none = none_misses Ends elsewhere }
 
   pub third_right : Ends (at 0x10008) → AreElsewhere Ends
-      → IsRight (program_of loop_and_rest) 0x10000 (geometry 16 1 1) Empty Ends AlwaysHit
+      → IsRight (as_words 16 loop_and_rest) (geometry 16 1 1) Empty Ends AlwaysHit
   third_right ends elsewhere = record { some = (_, (_, through ends, refl)); none = none_misses Ends elsewhere }
 
   pub first_right : Ends (at 0x10000)
-      → IsRight (program_of loop_and_rest) 0x10000 (geometry 16 1 1) Empty Ends
+      → IsRight (as_words 16 loop_and_rest) (geometry 16 1 1) Empty Ends
       (Unknown (way 3 (codes "t")) (way 1 []))
   unfolding successors next_at word_at kind_of pair_of
   first_right ends = (

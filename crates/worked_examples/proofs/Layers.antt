@@ -12,12 +12,12 @@ use Rattle.flow_spec.specs.Next.{next_at}
 use Rattle.flow_spec.specs.Successors.{Successors, successors}
 use Rattle.transition_spec.specs.Layer.{IsReachedIn, IsInLayer, IsLayer}
 use Rattle.transition_spec.specs.Path.{IsSuccessor}
-use Rattle.worked_examples.specs.Programs.{at, loop_and_rest}
+use Rattle.worked_examples.specs.Programs.{as_words, at, loop_and_rest}
 use Rattle.worked_examples.specs.Reports.{IsAcceptedIn, loop_layers}
 use Rattle.worked_examples.proofs.Moves.{step, first, second, third, follows_in, one_of_one, one_of_two, none_of_none}
 
 -- a list has its first member
-has_first : (a c : Configuration) (others : List Configuration) → c ≡ a → Contains (a ∷ others) c
+pub has_first : (a c : Configuration) (others : List Configuration) → c ≡ a → Contains (a ∷ others) c
 has_first a c others is = (0, omega arith, sym is)
 
 -- a configuration is at one address alone
@@ -141,7 +141,7 @@ third_layer = record {
   );
 }
 
-sorted_none : IsStrictlySortedBy configuration_cmp []
+pub sorted_none : IsStrictlySortedBy configuration_cmp []
 unfolding IsStrictlySortedBy
 sorted_none = tt
 
@@ -157,7 +157,7 @@ last_layer = record {
   members = λ c. (λ has. absurd (none_of_none c has), λ in_layer. absurd (none_later c in_layer));
 }
 
-pub loop_accepted : IsAcceptedIn loop_and_rest loop_layers
+pub loop_accepted : IsAcceptedIn (as_words 16 loop_and_rest) loop_layers
 unfolding successors next_at word_at kind_of pair_of
 loop_accepted = record {
   entry_is_good = refl;

@@ -9,7 +9,7 @@ use Rattle.flow_spec.specs.Configuration.{Configuration, start_of}
 use Rattle.flow_spec.specs.Next.{next_at}
 use Rattle.flow_spec.specs.Successors.{Successors, successors}
 use Rattle.transition_spec.specs.Path.{IsPath, IsSuccessor}
-use Rattle.worked_examples.specs.Programs.{program_of, at, loop_and_rest}
+use Rattle.worked_examples.specs.Programs.{as_words, at, loop_and_rest}
 
 -- what follows a configuration whose successors are known
 pub follows_in : (step : Step) (b known c : Configuration) (found : List Configuration) → b ≡ known
@@ -21,7 +21,7 @@ follows_in step b known c found is leads follows =
     subst Q leads (subst P is follows)
 
 abbrev pub step : Step
-step = successors (program_of loop_and_rest) 0x10000
+step = successors (as_words 16 loop_and_rest)
 
 pub first : step (at 0x10000) ≡ Ok (at 0x10004 ∷ [])
 unfolding successors next_at word_at kind_of pair_of

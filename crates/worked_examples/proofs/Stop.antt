@@ -8,21 +8,21 @@ use Rattle.cache_spec.specs.declared.start.Start.TheVariants.{Any}
 use Rattle.cache_spec.specs.Contents.{ends_in_hit}
 use Rattle.cache_spec.proofs.Starts.{can_hit-alone, can_miss}
 use Rattle.flow_spec.specs.Acceptance.{Step}
-use Rattle.flow_spec.specs.Configuration.{Configuration, start_of}
+use Rattle.flow_spec.specs.Configuration.{Configuration, start_of, fetched}
 use Rattle.flow_spec.specs.Next.{next_at}
 use Rattle.flow_spec.specs.Successors.{successors}
 use Rattle.transition_spec.specs.Path.{IsPath}
 use Rattle.report_spec.specs.declared.line.Verdict.TheVariants.{AlwaysHit, Unknown}
 use Rattle.report_spec.specs.Right.{Fetches, IsRight, fetches_of}
-use Rattle.report_spec.specs.Report.{IsAt}
+use Rattle.report_spec.specs.Inner.{IsAt}
 use Rattle.worked_examples.specs.Caches.{geometry}
-use Rattle.worked_examples.specs.Programs.{program_of, at, nop_and_stop}
+use Rattle.worked_examples.specs.Programs.{as_words, at, nop_and_stop}
 use Rattle.worked_examples.specs.Texts.{way}
 use Rattle.worked_examples.proofs.Moves.{follows_in, one_of_one, none_of_none}
 use Rattle.worked_examples.proofs.Fates.{hits_only, alone}
 
 abbrev step : Step
-step = successors (program_of nop_and_stop) 0x10000
+step = successors (as_words 16 nop_and_stop)
 
 first : step (at 0x10000) ≡ Ok (at 0x10004 ∷ [])
 unfolding successors next_at word_at kind_of pair_of
@@ -47,20 +47,20 @@ one_path c (b ∷ earlier) (follows, path) = elim (one_path b earlier path) [
 ]
 
 -- what the path to the stop fetches
-fetched : (addresses : List ℕ) → Fetches (program_of nop_and_stop) 0x10000 (IsAt 0x10004) addresses
+to_stop : (addresses : List ℕ) → Fetches (as_words 16 nop_and_stop) (IsAt 0x10004) addresses
     → addresses ≡ 0x10004 ∷ 0x10000 ∷ []
-fetched addresses (path, ends, is) =
+to_stop addresses (path, ends, is) =
     let P : List Configuration → Type 0 = λ path. IsPath step (start_of 0x10000) path in
     elim (one_path ends.last ends.earlier (subst P ends.path_is ends.is_path)) [
       | inl first ↦
           let last : ends.last ≡ at 0x10000 = cc first in
-          let there = ap (λ (c : Configuration). c.at) last in
+          let there = ap fetched last in
           let stop = ends.ends in absurd (omega (arith, there, stop))
       | inr whole ↦ is ∙ ap fetches_of (ends.path_is ∙ whole)
     ]
 
 -- the word can hit, where its block was there, and can miss
-pub first_unknown : IsRight (program_of nop_and_stop) 0x10000 (geometry 16 1 1) Any (IsAt 0x10000)
+pub first_unknown : IsRight (as_words 16 nop_and_stop) (geometry 16 1 1) Any (IsAt 0x10000)
     (Unknown (way 1 []) (way 1 []))
 first_unknown = (
   alone nop_and_stop Any (IsAt 0x10000) true refl ((can_hit-alone (geometry 16 1 1) 0x10000 [] (lit≤ tt)).1 refl),
@@ -68,7 +68,7 @@ first_unknown = (
 )
 
 -- the stop always hits
-pub second_hits : IsRight (program_of nop_and_stop) 0x10000 (geometry 16 1 1) Any (IsAt 0x10004) AlwaysHit
+pub second_hits : IsRight (as_words 16 nop_and_stop) (geometry 16 1 1) Any (IsAt 0x10004) AlwaysHit
 unfolding successors next_at word_at kind_of pair_of
 second_hits = record {
   some = (
@@ -86,5 +86,5 @@ second_hits = record {
     ),
   );
   none = λ addresses fetches. hits_only (geometry 16 1 1) Any addresses
-      (ap (ends_in_hit (geometry 16 1 1)) (fetched addresses fetches));
+      (ap (ends_in_hit (geometry 16 1 1)) (to_stop addresses fetches));
 }

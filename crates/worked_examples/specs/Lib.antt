@@ -3,6 +3,7 @@ pub mod Programs
 pub mod Files
 pub mod Segments
 pub mod Flows
+pub mod Compressed
 pub mod Caches
 pub mod Texts
 pub mod Orders

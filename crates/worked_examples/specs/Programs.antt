@@ -1,9 +1,11 @@
--- Small programs as images, and configurations of them.
+-- Small programs, their images, and configurations of them.
 use Rattle.std.specs.Prelude.{ℕ, ◌*◌, List, [], ◌∷◌, ◌++◌, length, flat_map}
 use Rattle.std.specs.Int.{w32, to_le_bytes}
 use Rattle.riscv_spec.specs.declared.kind.Link.{Link}
+use Rattle.riscv_spec.specs.declared.parcel.Isa.TheVariants.{Rv32i, Rv32ic}
 use Rattle.flow_spec.specs.declared.frame.Frame.{Frame}
 use Rattle.flow_spec.specs.Configuration.{Configuration, configuration}
+use Rattle.flow_spec.specs.Program.{Program, program}
 use Rattle.elf_spec.specs.Image.{Image}
 use Rattle.worked_examples.specs.Headers.{head_for}
 
@@ -18,6 +20,14 @@ program_of words = record {
   segments = record { at = 0x10000; size = 4 * length words; offset = 84 } ∷ [];
   entry = 0x10000;
 }
+
+-- the program that begins with the first of these words, in cache lines of this many bytes
+abbrev pub as_words : ℕ → List ℕ → Program
+as_words line words = program (program_of words) Rv32i line 0x10000
+
+-- the same with compressed instructions
+abbrev pub as_parcels : ℕ → List ℕ → Program
+as_parcels line words = program (program_of words) Rv32ic line 0x10000
 
 -- an open call
 abbrev pub frame : ℕ → Link → ℕ → Frame

@@ -1,23 +1,27 @@
--- The layers and the reports of the loop with a word after, programs that are refused, and a report where the cache may
--- start with anything.
+-- The layers and the reports of the loop with a word after, programs that are refused, a report where the cache may
+-- start with anything, and reports of programs with compressed instructions.
 use Rattle.std.specs.Prelude.{ℕ, List, [], ◌∷◌, ◌++◌, None, codes}
 use Rattle.flow_spec.specs.declared.fault.FlowFault.{FlowFault}
+use Rattle.riscv_spec.specs.declared.parcel.Isa.TheVariants.{Rv32i}
+use Rattle.flow_spec.specs.Program.{Program, program}
 use Rattle.flow_spec.specs.Acceptance.{IsAccepted, IsRefused}
 use Rattle.flow_spec.specs.Configuration.{Configuration}
 use Rattle.flow_spec.specs.Successors.{successors}
 use Rattle.report_spec.specs.declared.line.Line.{Line}
 use Rattle.report_spec.specs.declared.line.Line.TheVariants.{At, Context, Unreachable}
-use Rattle.report_spec.specs.declared.line.Verdict.TheVariants.{AlwaysHit, Unknown}
+use Rattle.report_spec.specs.declared.line.Verdict.TheVariants.{AlwaysHit, AlwaysMiss, Unknown}
 use Rattle.worked_examples.specs.Programs.{program_of, at}
 use Rattle.worked_examples.specs.Texts.{way}
 
 -- the program is accepted with these layers
-abbrev pub IsAcceptedIn : List ℕ → List (List Configuration) → Type 0
-IsAcceptedIn words layers = IsAccepted (successors (program_of words) 0x10000) (program_of words) 0x10000 layers
+abbrev pub IsAcceptedIn : Program → List (List Configuration) → Type 0
+IsAcceptedIn program layers = IsAccepted (successors program) program layers
 
--- the program is refused when it begins at the entry
+-- the program of these words is refused when it begins at the entry
 abbrev pub IsRefusedFrom : ℕ → List ℕ → FlowFault → Type 0
-IsRefusedFrom entry words fault = IsRefused (successors (program_of words) entry) (program_of words) entry fault
+IsRefusedFrom entry words fault =
+    let from = program (program_of words) Rv32i 32 entry in
+    IsRefused (successors from) from fault
 
 -- each word of the loop is a layer
 abbrev pub loop_layers : List (List Configuration)
@@ -66,3 +70,38 @@ stop_lines = At 0x10000 (Unknown (way 1 []) (way 1 [])) ∷ At 0x10004 AlwaysHit
 -- their text
 abbrev pub stop_report : List ℕ
 stop_report = codes "0x00010000 unknown hit 1 - miss 1 -\n" ++ codes "0x00010004 always-hit\n"
+
+-- the long instruction between two parcels, in a line of 16 bytes: its middle has no line
+abbrev pub whole_lines : List Line
+whole_lines = At 0x10000 AlwaysMiss ∷ At 0x10002 AlwaysHit ∷ At 0x10006 AlwaysHit ∷ []
+
+-- their text
+abbrev pub whole_report : List ℕ
+whole_report =
+    codes "0x00010000 always-miss\n" ++ (codes "0x00010002 always-hit\n" ++ codes "0x00010006 always-hit\n")
+
+-- the same in lines of 4 bytes, one of which begins in its middle
+abbrev pub parted_lines : List Line
+parted_lines =
+    At 0x10000 AlwaysMiss ∷ At 0x10002 AlwaysHit ∷ At 0x10004 AlwaysMiss ∷ At 0x10006 AlwaysHit ∷ []
+
+-- their text
+abbrev pub parted_report : List ℕ
+parted_report =
+    codes "0x00010000 always-miss\n"
+    ++ (codes "0x00010002 always-hit\n"
+    ++ (codes "0x00010004 always-miss\n"
+    ++ codes "0x00010006 always-hit\n"))
+
+-- the call over a stop: what nothing fetches after an instruction of two bytes has a line
+abbrev pub called_lines : List Line
+called_lines =
+    At 0x10000 AlwaysMiss ∷ At 0x10002 AlwaysHit ∷ At 0x10004 AlwaysHit ∷ Unreachable 0x10006 0x10006 ∷ []
+
+-- their text
+abbrev pub called_report : List ℕ
+called_report =
+    codes "0x00010000 always-miss\n"
+    ++ (codes "0x00010002 always-hit\n"
+    ++ (codes "0x00010004 always-hit\n"
+    ++ codes "0x00010006-0x00010006 unreachable\n"))

@@ -8,9 +8,9 @@ use Rattle.call_expand.proofs.follow.follow_all.Goals as goal
 
 pub edges_of-requires-clause-point : goal.edges_of-requires-clause-point
 edges_of-requires-clause-point c =
-    let image = c.args.image.now in
-    same-point image c.args.stacks.now c.loop-point.stacks c.loop-point.invariant.goes_on _
-    (all-at (IsPoint image c.args.stacks.now) c.args.points.now c.loop-point.point-index (point 0 0) c.requires.points
+    let program = c.args.program.now in
+    same-point program c.args.stacks.now c.loop-point.stacks c.loop-point.invariant.goes_on _
+    (all-at (IsPoint program c.args.stacks.now) c.args.points.now c.loop-point.point-index (point 0 0) c.requires.points
     c.loop-point-test.true)
 
 pub returns-in_err-next-clause-fault : goal.returns-in_err-next-clause-fault

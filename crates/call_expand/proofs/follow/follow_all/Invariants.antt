@@ -4,5 +4,5 @@ use Rattle.call_expand.proofs.follow.follow_all.Given as goal
 
 abbrev pub invariant-loop-point : goal.invariant-loop-point
 invariant-loop-point l =
-    AreFollowed (successors l.fn.image l.entry) l.fn.image l.fn.stacks l.points l.point-index l.stacks l.fn.edges.items
+    AreFollowed (successors l.fn.program) l.fn.program l.fn.stacks l.points l.point-index l.stacks l.fn.edges.items
     l.edges.items

@@ -3,7 +3,7 @@ use Rattle.call_expand.specs.declared.point.Point.{Point}
 use Rattle.call_expand.specs.declared.point.Edges.{Edges}
 use Rattle.call_expand.specs.Numbers.{AreNodesFor}
 use Rattle.call_expand.specs.Point.{AreExpanded, configurations_at}
-use Rattle.call_expand.proofs.Finished.{some-from, same-at, edges_long, edges_among, is_accepted, is_graph, is_graph_of, are_expanded, are_texts}
+use Rattle.call_expand.proofs.Finished.{some-from, same-at, edges_long, edges_among, is_accepted, is_graph, is_graph_of, are_expanded, are_texts, are_fit_points}
 use Rattle.call_expand.proofs.search.finish.Goals as goal
 use Rattle.call_expand.proofs.search.finish.Goals.{After-new, After-unwrap-graph}
 
@@ -31,6 +31,9 @@ nodes_of-requires-clause-each c = ap length c.deref.ensures.value ∙ edges_long
 
 pub nodes_of-requires-clause-among : goal.nodes_of-requires-clause-among
 nodes_of-requires-clause-among c = rw c.deref.ensures.value (edges_among c.requires)
+
+pub nodes_of-requires-clause-fit : goal.nodes_of-requires-clause-fit
+nodes_of-requires-clause-fit c = are_fit_points c.requires
 
 pub unwrap-graph-requires : goal.unwrap-graph-requires
 unwrap-graph-requires c =

@@ -1,8 +1,10 @@
-use Rattle.std.proofs.Common.{suc, List, sym, subst, take, get_or, arith, add-one, ℕ, ◌<◌, length}
+use Rattle.std.proofs.Common.{suc, List, sym, subst, take, get_or, arith, add-one, ℕ, ◌^◌, ◌<◌, length}
 use Rattle.path_model.specs.declared.graph.Node.{Node}
 use Rattle.call_expand.specs.Numbers.{AreNodesFor, IsNodeFor}
 use Rattle.call_expand.specs.declared.point.Point.{Point}
+use Rattle.call_expand.specs.Point.{fetched_by}
 use Rattle.call_expand.proofs.Edges.{none}
+use Rattle.call_expand.proofs.Zipped.{all-at}
 use Rattle.call_expand.proofs.Ordered.{point}
 use Rattle.call_expand.proofs.Numbered.{among-at, nodes-more}
 use Rattle.call_expand.proofs.search.nodes_of.Goals as goal
@@ -10,6 +12,13 @@ use Rattle.call_expand.proofs.search.nodes_of.Goals as goal
 pub node_of-requires : goal.node_of-requires
 node_of-requires c = record {
   among = among-at c.args.known.now c.args.edges.now c.loop-index.index none c.requires.among c.loop-index-test.true;
+  fits =
+      let all = c.args.known.now in
+      let i = c.loop-index.index in
+      let P : List Point → Type 0 = λ ps. fetched_by (get_or ps i (point 0 0)) < 2 ^ 32 in
+      subst P (sym c.points-points.ensures)
+      (all-at (λ p. fetched_by p < 2 ^ 32) all i (point 0 0) c.requires.fit
+      (omega (arith, c.requires.each, c.loop-index-test.true)));
 }
 
 pub loop-index-preserved : goal.loop-index-preserved

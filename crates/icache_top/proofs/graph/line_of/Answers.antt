@@ -14,5 +14,4 @@ returns c =
     let node : slice_get e.nodes c.args.node ≡ Some (slice_index_or c.nodes.result.now c.args.node
     (record { at = 0; first = None; second = None })) =
     subst P (sym nodes) (node_is e.nodes c.args.node _ c.requires.inside) in
-    line_is e c.args.node _ _ _ _ c.requires.inside c.requires.one_each node c.config-config.ensures.at
-    c.config-config.ensures.depth (search rules)
+    line_is e c.args.node _ _ _ c.requires.inside c.requires.one_each node c.config-config.ensures.depth (search rules)

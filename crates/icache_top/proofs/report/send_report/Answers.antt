@@ -4,7 +4,7 @@ use Rattle.std.proofs.lemmas.Grind.{common_steps}
 use Rattle.byte_port.proofs.Moves.{MovesSome-none, MovesSome-trans}
 use Rattle.line_sender.specs.Pending.{Pending, WritesBy}
 use Rattle.line_sender.proofs.Pending.{Pending-start, Appends-pending, SendsPrefix-pending, WritesBy-after}
-use Rattle.icache_top.specs.Lines.{SentBefore, StandsIn}
+use Rattle.icache_top.specs.Lines.{SentBefore, StandsIn, layout_of}
 use Rattle.icache_top.proofs.Sent.{whole, sent_next, part_sent, none_sent, err_of}
 use Rattle.icache_top.proofs.report.send_report.Goals as goal
 
@@ -12,13 +12,13 @@ pub returns-in_err-plan-clause-part : goal.returns-in_err-plan-clause-part
 returns-in_err-plan-clause-part g c =
     let found = c.args.found.now in
     err_of c.from_residual.result
-    (none_sent c.args.contexts found.image.now found.expanded.now found.verdicts.now c.requires _)
+    (none_sent c.args.contexts (layout_of found) found.verdicts.now c.requires _)
 
 pub returns-in_err-buffer-clause-part : goal.returns-in_err-buffer-clause-part
 returns-in_err-buffer-clause-part g c =
     let found = c.args.found.now in
     err_of c.from_residual-in_err-buffer.result
-    (none_sent c.args.contexts found.image.now found.expanded.now found.verdicts.now c.requires _)
+    (none_sent c.args.contexts (layout_of found) found.verdicts.now c.requires _)
 
 pub loop-cursor-init : goal.loop-cursor-init
 loop-cursor-init g c =
@@ -42,7 +42,7 @@ returns-in_err-cursor-clause-part g c =
     let Before =
     SentBefore g.O.Sink c.args.contexts found c.args.out.now c.loop-cursor.out c.loop-cursor.buffer.items in
     err_of c.from_residual-in_err-cursor.result
-    (part_sent c.args.contexts found.image.now found.expanded.now found.verdicts.now c.requires _ _ _
+    (part_sent c.args.contexts (layout_of found) found.verdicts.now c.requires _ _ _
     c.loop-cursor.buffer.items c.in-Some.from (subst Before c.in-Some.is c.loop-cursor.invariant.lines)
     c.in_err-cursor.ensures.part)
 

@@ -6,10 +6,10 @@ use Rattle.one_answer.proofs.laws.one_answer.Goals as goal
 
 pub returns : goal.returns
 returns c = record {
-  accepted_or_refused = λ step image entry. accepted_or_refused step image entry;
-  either = λ step image entry layers fault. accepted_refused step entry image layers fault;
-  numbering = λ step image entry layers others. one_numbering step entry image layers others;
-  fault = λ step image entry fault other. one_fault step entry image fault other;
+  accepted_or_refused = λ step program. accepted_or_refused step program;
+  either = λ step program layers fault. accepted_refused step program layers fault;
+  numbering = λ step program layers others. one_numbering step program layers others;
+  fault = λ step program fault other. one_fault step program fault other;
   few_or_many = λ addresses g. few_or_many addresses g;
   few = λ addresses g set count. few_in_all_many addresses g set count;
   many = λ addresses g set count other number. one_many addresses g set count other number;

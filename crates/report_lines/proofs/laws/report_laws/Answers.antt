@@ -5,10 +5,10 @@ use Rattle.report_lines.proofs.laws.report_laws.Goals as goal
 
 pub returns : goal.returns
 returns c = record {
-  report = λ image entry g start contexts configurations nodes verdicts lines found all.
-      report image entry g start configurations nodes verdicts found contexts lines all;
-  rest = λ image entry g start contexts configurations nodes verdicts cursor found.
-      rest image entry g start configurations nodes verdicts found contexts cursor;
-  valid = λ image entry g start configurations nodes verdicts found. right_valid nodes g start verdicts
+  report = λ program g start contexts configurations nodes verdicts lines found all.
+      report program g start configurations nodes verdicts found contexts lines all;
+  rest = λ program g start contexts configurations nodes verdicts cursor found.
+      rest program g start configurations nodes verdicts found contexts cursor;
+  valid = λ program g start configurations nodes verdicts found. right_valid nodes g start verdicts
       (λ n below. found.right n (omega (arith, below, found.one_each)));
 }

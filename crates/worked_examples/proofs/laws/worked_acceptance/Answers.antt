@@ -12,14 +12,14 @@ use Rattle.flow_spec.specs.Next.{next_at}
 use Rattle.flow_spec.specs.Successors.{successors}
 use Rattle.transition_spec.specs.Layer.{IsInLayer, IsLayer}
 use Rattle.transition_spec.specs.Path.{IsSuccessor}
-use Rattle.worked_examples.specs.Programs.{program_of, at}
+use Rattle.worked_examples.specs.Programs.{as_words, at}
 use Rattle.worked_examples.specs.Reports.{two_faults}
 use Rattle.worked_examples.proofs.Moves.{one_of_two}
 use Rattle.worked_examples.proofs.Layers.{loop_accepted, start_layer, in_next, reached_from, reached_first}
 use Rattle.worked_examples.proofs.laws.worked_acceptance.Goals as goal
 
 abbrev steps : Step
-steps = successors (program_of two_faults) 0x10000
+steps = successors (as_words 32 two_faults)
 
 branches : steps (at 0x10000) ≡ Ok (at 0x10004 ∷ at 0x10008 ∷ [])
 unfolding successors next_at word_at kind_of pair_of

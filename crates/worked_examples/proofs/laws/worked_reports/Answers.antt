@@ -3,14 +3,14 @@ use Rattle.std.proofs.Common.{◌≡◌, zero, suc, refl, ap, arith, lit<}
 use Rattle.std.specs.Fmt.{digits}
 use Rattle.std.specs.List.Sorted.{IsStrictlyIncreasing}
 use Rattle.hex.specs.Hex.{encode_with}
-use Rattle.flow_spec.specs.Configuration.{Configuration}
-use Rattle.report_spec.specs.Report.{IsAt}
+use Rattle.flow_spec.specs.Configuration.{fetched}
+use Rattle.report_spec.specs.Inner.{IsAt}
 use Rattle.report_spec.specs.Text.{address_text, text_of}
 use Rattle.worked_examples.specs.Programs.{at, loop_and_rest, nop_and_stop}
 use Rattle.worked_examples.specs.Reports.{loop_layers, loop_lines, loop_report, loop_context_lines, loop_context_report, stop_lines, stop_report}
 use Rattle.worked_examples.proofs.Fates.{AreElsewhere, first_right, second_right, third_right, unreached}
 use Rattle.worked_examples.proofs.Layers.{loop_accepted}
-use Rattle.worked_examples.proofs.Listed.{places, all_text}
+use Rattle.worked_examples.proofs.Listed.{places, all_lines}
 use Rattle.worked_examples.proofs.Stop.{first_unknown, second_hits}
 use Rattle.worked_examples.proofs.laws.worked_reports.Goals as goal
 
@@ -43,10 +43,10 @@ at_third : AreElsewhere (IsAt 0x10008)
 at_third d there same = omega (arith, there, same)
 
 is_second : AreElsewhere (λ d. d ≡ at 0x10004)
-is_second d is same = let there = ap (λ (d : Configuration). d.at) is in omega (arith, there, same)
+is_second d is same = let there = ap fetched is in omega (arith, there, same)
 
 is_third : AreElsewhere (λ d. d ≡ at 0x10008)
-is_third d is same = let there = ap (λ (d : Configuration). d.at) is in omega (arith, there, same)
+is_third d is same = let there = ap fetched is in omega (arith, there, same)
 
 pub returns-clause-by_address : goal.returns-clause-by_address
 returns-clause-by_address c = (
@@ -54,7 +54,7 @@ returns-clause-by_address c = (
   text_is,
   record {
     rising = rising;
-    all = all_text loop_and_rest;
+    all = all_lines 16 loop_and_rest;
     right = (
       first_right (IsAt 0x10000) refl,
       (
@@ -89,7 +89,7 @@ returns-clause-any_start c = (
   stop_text_is,
   record {
     rising = stop_rising;
-    all = all_text nop_and_stop;
+    all = all_lines 16 nop_and_stop;
     right = (first_unknown, (second_hits, tt));
     greatest = tt;
   },

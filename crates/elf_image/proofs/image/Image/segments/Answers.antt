@@ -4,8 +4,8 @@ use Rattle.elf_image.specs.Fits.{SegmentFits}
 use Rattle.elf_image.proofs.Next.{text_below, parcel_below}
 use Rattle.elf_image.proofs.image.Image.segments.Goals as goal
 
-pub returns-clause-text : goal.returns-clause-text
-returns-clause-text c =
+pub returns-clause-words : goal.returns-clause-words
+returns-clause-words c =
     let P : Image → Type 0 = λ image. All (SegmentFits (length image.file)) image.segments in
     λ p has. text_below c.args.self.now p (subst P c.self.view_is c.self.invariant.each) has
 

@@ -1,9 +1,0 @@
-use Rattle.std.proofs.Common.{◌-◌, ◌^◌}
-use Rattle.report_plan.proofs.Bare.{IsBareTo}
-use Rattle.report_plan.proofs.range.range_end.Given as goal
-
-abbrev pub invariant-loop-next : goal.invariant-loop-next
-invariant-loop-next l = IsBareTo l.image l.nodes l.first l.last
-
-abbrev pub decreases-loop-next : goal.decreases-loop-next
-decreases-loop-next l = 2 ^ 32 - l.last
