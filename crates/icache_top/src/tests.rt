@@ -127,7 +127,7 @@ fn faulty_words_get_the_usage_text(rt: HostRuntime) -> Result<(), Fail> {
         "classify --entry 0x123456789",
         "classify --entry 0x1000g",
         "classify --entry 0x10000 --entry 0x10000",
-        "graph --line 4",
+        "graph --line 3",
         "graph --contexts",
         "graph --entry",
     ] {
