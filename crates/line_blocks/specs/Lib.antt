@@ -1,0 +1,4 @@
+pub use Rattle.focus_spec.specs.Fate
+pub mod Runs
+pub mod Alone
+pub mod Expand

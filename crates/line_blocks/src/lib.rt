@@ -1,0 +1,21 @@
+//! The l-blocks of a graph: runs of fetches of one line of the cache that are entered only at their first.
+//!
+//! `line_blocks` makes the graph of the runs once for all sets: its paths to a run do there what the paths of the whole
+//! graph do at the run's first node, and each other node always hits, as `run_laws` says; `expand_path` gives the path of
+//! the whole graph for one of the runs. A draft of the runs is tested, so nothing rests on how it is made; that runs are
+//! as long as they can be isn't proved. Stands on the graphs of `path_model` and the geometries of `cache_geom`; what
+//! paths can do is said by `focus_spec`.
+#![tactic(auto)]
+
+mod drafting;
+mod expanding;
+mod laws;
+mod making;
+mod plan;
+#[cfg(test)]
+mod tests;
+
+pub use expanding::expand_path;
+pub use laws::run_laws;
+pub use making::{LineBlocks, line_blocks};
+pub use plan::Run;
