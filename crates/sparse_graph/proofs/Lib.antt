@@ -1,0 +1,9 @@
+pub mod Tested
+pub mod Edges
+pub mod Small
+pub mod Paths
+pub mod Fates
+pub mod Blocks
+pub mod Steps
+pub mod Places
+pub mod Solutions
