@@ -20,9 +20,18 @@ use Rattle.focus_plain.specs.declared.ends.Found.{Found}
 use Rattle.focus_plain.specs.Cut.{IsBelow, IsFirst, left_by}
 use Rattle.focus_plain.specs.Entries.{set_at, trail_of, seen_of, seen_at, latest_at, index_of, IsBetween, IsSpread}
 use Rattle.focus_plain.specs.Ends.{IsFound, ends_of}
+use Rattle.focus_plain.specs.Judged.{Judged, IsJudgedBy, IsClassification, IsPathTo}
+use Rattle.focus_plain.specs.declared.judging.Classification.TheVariants.{Both}
+use Rattle.std.proofs.lemmas.Bool.{cases_lt}
+use Rattle.std.proofs.lemmas.List.{get_or_past}
+use Rattle.path_trail.proofs.Chains.{IsPath-chain}
 use Rattle.focus_plain.proofs.Order.{first-rising, left_by-below, small-cut}
 use Rattle.focus_plain.proofs.Course.{paths_between}
 use Rattle.focus_plain.proofs.Links.{length-trail}
+
+twice : (b : Bool) → not (not b) ≡ b
+twice true = refl
+twice false = refl
 
 -- an entry has one chain
 chain_unique : (trail : List TrailEntry) (xs ys : List ℕ) (entry : Option ℕ) → IsChain trail entry xs
@@ -174,26 +183,51 @@ module _ (view : View) (found : Found) (is : IsFound view found) (law : EndsBySe
         sym (seen-there number) ∙ above_none (left_from first earlier) (seen_at seen number) above none,
       )
 
-  -- the way of an entry for a hit names a path to the node that can hit, and that of one for a miss one that can miss
+  -- the chain of an entry for a hit is a path to the node that can hit, and that of one for a miss one that can miss
+  pub noted_path : (hits : Bool) (number : ℕ) (members : List ℕ) → latest_at (ends_of found hits) n ≡ Some number
+      → IsChain (trail_of entries) (Some number) members → IsPath (graph_step view.nodes) 0 members
+      → IsPathTo view.nodes view.geometry found.start n hits members
+  noted_path hits number members noted chained is_path =
+      let at = (is.ends hits).sound n number noted in
+      let (earlier, chain, (first, begins, left)) =
+      is.search.course.sound number (omega (arith, at.0, length-trail entries)) in
+      let members_are : members ≡ n ∷ earlier =
+      chain_unique (trail_of entries) members _ (Some number) chained chain ∙ ap (λ (m : ℕ). m ∷ earlier) at.1 in
+      let path = subst (λ (xs : List ℕ). IsPath (graph_step view.nodes) 0 xs) members_are is_path in
+      record {
+        earlier = earlier;
+        ends = members_are;
+        is_path = path;
+        fate = can_end hits earlier first path begins (ap is_some left ∙ seen-there number ∙ at.2);
+      }
+
+  -- so its way names such a path
   pub noted_way : (hits : Bool) (nodes : List Node) (number : ℕ) (way : Way)
       → latest_at (ends_of found hits) n ≡ Some number → nodes ≡ view.nodes
       → IsWayOf nodes (trail_of entries) number way → NamesEnd view.nodes view.geometry found.start n way hits
   noted_way hits nodes number way noted same is_way =
-      let at = (is.ends hits).sound n number noted in
       let way_is = subst (λ (nodes : List Node). IsWayOf nodes (trail_of entries) number way) same is_way in
-      let (earlier, chain, (first, begins, left)) =
-      is.search.course.sound number (omega (arith, at.0, length-trail entries)) in
-      let members : way_is.members ≡ n ∷ earlier =
-      chain_unique (trail_of entries) way_is.members _ (Some number) way_is.chain chain
-      ∙ ap (λ (m : ℕ). m ∷ earlier) at.1 in
-      let path = subst (λ (xs : List ℕ). IsPath (graph_step view.nodes) 0 xs) members way_is.path in
-      let named = subst (λ (xs : List ℕ). Names (graph_step view.nodes) way xs) members way_is.named in
+      let to = noted_path hits number way_is.members noted way_is.chain way_is.path in
       record {
-        earlier = earlier;
-        is_path = path;
-        names = named;
-        fate = can_end hits earlier first path begins (ap is_some left ∙ seen-there number ∙ at.2);
+        earlier = to.earlier;
+        is_path = to.is_path;
+        names = subst (λ (xs : List ℕ). Names (graph_step view.nodes) way xs) to.ends way_is.named;
+        fate = to.fate;
       }
+
+  -- and not all paths to the node end otherwise
+  pub noted_some : (hits : Bool) (number : ℕ) → latest_at (ends_of found hits) n ≡ Some number
+      → AllEnd view.nodes view.geometry found.start n (not hits) → ⊥
+  noted_some hits number noted all =
+      let at = (is.ends hits).sound n number noted in
+      let inside : number < length (trail_of entries) = omega (arith, at.0, length-trail entries) in
+      let (earlier, chain, begun) = is.search.course.sound number inside in
+      let members : List ℕ = node_at (trail_of entries) number ∷ earlier in
+      let path = IsPath-chain view.nodes (trail_of entries) number members is.search.course.follows inside chain in
+      let to = noted_path hits number members noted chain path in
+      all to.earlier to.is_path
+      (subst (λ (b : Bool). PathCanEnd view.nodes view.geometry found.start (n ∷ to.earlier) b) (sym (twice hits))
+      to.fate)
 
   -- where no entry is noted for a hit, no path can hit, and where none is for a miss, none can miss
   none_ends : (hits : Bool) → latest_at (ends_of found hits) n ≡ None → (earlier : List ℕ)
@@ -208,3 +242,49 @@ module _ (view : View) (found : Found) (is : IsFound view found) (law : EndsBySe
       → AllEnd view.nodes view.geometry found.start n (not hits)
   none_noted true none = none_ends true none
   none_noted false none = none_ends false none
+
+-- the search as a value of its own
+module _ (judged : Judged) (view : View) (found : Found)
+    (same : record { view = view; start = found.start; block = found.block } ≡ judged)
+    (is : IsJudgedBy view found) (law : EndsBySets view found.start found.block) (n : ℕ)
+    (fetches : fetch_at judged.view.fetches n ≡ Some judged.block) where
+  own : fetch_at view.fetches n ≡ Some found.block
+  own = subst (λ (j : Judged). fetch_at j.view.fetches n ≡ Some j.block) (sym same) fetches
+
+  -- a node that fetches the block is one of the search
+  pub judged_inside : (hits : Bool) → n < length (ends_of found hits)
+  judged_inside hits = elim (cases_lt n (length view.nodes)) [
+    | inl inside ↦ omega (arith, inside, is.is_found.one_each hits)
+    | inr past ↦
+        absurd (none-some found.block (sym (get_or_past view.fetches n None (omega (arith, past, is.is_view.one_each)))
+        ∙ own))
+  ]
+
+  -- the end that is noted for it is an entry
+  pub judged_entry : (hits : Bool) (number : ℕ) → latest_at (ends_of found hits) n ≡ Some number
+      → number < length (trail_of found.search.entries.items)
+  judged_entry hits number noted = noted_inside view found hits n number is.is_found noted
+
+  -- all paths hit, or all miss
+  pub judged_all : (hits : Bool) → latest_at (ends_of found hits) n ≡ None
+      → AllEnd judged.view.nodes judged.view.geometry judged.start n (not hits)
+  judged_all hits none =
+      subst (λ (j : Judged). AllEnd j.view.nodes j.view.geometry j.start n (not hits)) same
+      (none_noted view found is.is_found law n own hits none)
+
+  -- some hit, and some miss
+  pub judged_both : (one two : ℕ) → latest_at (ends_of found true) n ≡ Some one
+      → latest_at (ends_of found false) n ≡ Some two → IsClassification judged n Both
+  judged_both one two hit miss =
+      subst (λ (j : Judged). IsClassification j n Both) same
+      (noted_some view found is.is_found law n own false two miss, noted_some view found is.is_found law n own true one hit)
+
+  -- the path of an entry that is noted
+  pub judged_path : (hits : Bool) (nodes : List Node) (number : ℕ) (members : List ℕ)
+      → latest_at (ends_of found hits) n ≡ Some number → nodes ≡ view.nodes
+      → IsChain (trail_of found.search.entries.items) (Some number) members → IsPath (graph_step nodes) 0 members
+      → IsPathTo judged.view.nodes judged.view.geometry judged.start n hits members
+  judged_path hits nodes number members noted graph chain path =
+      subst (λ (j : Judged). IsPathTo j.view.nodes j.view.geometry j.start n hits members) same
+      (noted_path view found is.is_found law n own hits number members noted chain
+      (subst (λ (ns : List Node). IsPath (graph_step ns) 0 members) graph path))

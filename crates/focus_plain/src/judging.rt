@@ -1,88 +1,99 @@
-// What the paths that end in each node do that fetches a block.
-ghost use Rattle.std.specs.Prelude.{◌≡◌, ◌<◌, length, map, Some, IfOk};
-ghost use Rattle.std.specs.List.{All};
+// What the paths that end in a node do where it fetches a block.
+ghost use Rattle.std.specs.Prelude.{◌≡◌, ◌<◌, length, not, reverse, Some, IfOk, IfSome, IfNone};
 ghost use Rattle.focus_spec.specs.Younger.{fetch_at};
 ghost use Rattle.set_view.specs.View.{IsView};
-ghost use Rattle.focus_plain.specs.Ends.{IsFound};
-ghost use Rattle.focus_plain.specs.Judged.{AreFetchers, IsClassification};
+ghost use Rattle.focus_spec.specs.Fate.{AllEnd};
+ghost use Rattle.focus_plain.specs.Judged.{IsClassification, IsPathTo};
 
 use crate::ends::{Found, find};
 use crate::search::Focus;
 use path_model::Start;
-use path_trail::{Way, way_of};
+use path_trail::trace;
 use set_view::{SetView, view_laws};
 use std::alloc::{AllocError, Global};
+use std::marker::Model;
 
-/// What the paths that end in a node can do there: only hit, only miss, or both, with a way of a path that can hit and
-/// one of a path that can miss.
-#[derive(Debug, Drop)]
+/// What the paths that end in a node can do there: only hit, only miss, or both.
+#[derive(Clone, Copy, Debug, PartialEq, Eq)]
 pub enum Classification {
     Hits,
     Misses,
-    Both { hit: Way, miss: Way },
+    Both,
 }
 
-/// A node, and what the paths can do that end there.
-#[derive(Debug, Drop)]
-pub struct Judged {
-    pub node: u32,
-    pub classification: Classification,
+/// The paths that a search for a block of a cache set has found: for each node that fetches the block it says what all
+/// paths can do that end there, and has a path for each.
+#[derive(Drop)]
+pub struct Judgement<'v, 'g> {
+    view: &'v SetView<'g>,
+    found: Found,
 }
 
-/// What the paths can do that end in each node that fetches a block of the set, rising by node, from all that the cache
-/// may start with. The block is given by its local number.
+impl<'v, 'g> Model for Judgement<'v, 'g> {
+    ghost use Rattle.focus_plain.specs.Judged.{Judged, IsJudgedBy};
+
+    ghost Value = { Judged };
+
+    ghost view = { λ j. record { view = j.view.now; start = j.found.start; block = j.found.block } };
+
+    ghost invariant = { λ j. IsJudgedBy j.view.now j.found };
+}
+
+/// Searches all paths to the nodes that fetch a block of the set, from all that the cache may start with. The block is
+/// given by its local number.
 ///
-/// It searches the graph once: a path is left out where the younger set that it leaves lies between those of two paths
+/// It goes over the graph once: a path is left out where the younger set that it leaves lies between those of two paths
 /// to its node that were found before. Each of the others is compared with those that were found at the nodes that it
-/// leads to, in time and memory of their number. Ways are made only at nodes with both a hit and a miss. An error is
-/// out of memory, also where more than 4,294,967,295 paths were kept, which take more than 64 GiB.
-pub fn judge(
+/// leads to, in time and memory of their number. An error is out of memory, also where more than 4,294,967,295 paths
+/// were kept, which take more than 64 GiB.
+pub fn judge<'v, 'g>(
     alloc: Global,
-    view: &SetView,
+    view: &'v SetView<'g>,
     block: u16,
     start: Start,
-) -> Result<Vec<Judged>, AllocError>
+) -> Result<Judgement<'v, 'g>, AllocError>
     requires { block < length view.now.blocks }
-    ensures nodes { IfOk result (λ judged. AreFetchers view.now.fetches block (map (λ j. j.node) judged.items)) }
-    ensures classifications { IfOk result (λ judged.
-        All (λ j. IsClassification view.now start j.node j.classification) judged.items) }
+    ensures view { IfOk result (λ judged. judged.view ≡ view.now) }
+    ensures block { IfOk result (λ judged. judged.block ≡ block) }
+    ensures start { IfOk result (λ judged. judged.start ≡ start) }
 {
     let blocks = view.blocks();
     prove!((block as usize) < blocks.len());
     let found = find(alloc, &Focus { view, block, start })?;
-    let mut judged = Vec::new(alloc);
-    for node in 0..view.graph().nodes().len() as u32 {
-        if view.fetch(node) == Some(block) {
-            let classification = classification_at(alloc, view, &found, node)?;
-            judged.push(Judged {
-                node,
-                classification,
-            })?;
-        }
-    }
-    Ok(judged)
+    Ok(Judgement { view, found })
 }
 
-// What the paths can do that end in a node which fetches the block.
-fn classification_at(
-    alloc: Global,
-    view: &SetView,
-    found: &Found,
-    node: u32,
-) -> Result<Classification, AllocError>
-    requires view { IsView view.now }
-    requires found { IsFound view.now found.now }
-    requires fetches { fetch_at view.now.fetches node ≡ Some found.now.block }
-    requires inside { node < length view.now.nodes }
-    ensures { IfOk result (λ classification. IsClassification view.now found.now.start node classification) }
-{
-    view_laws();
-    match (found.end_at(node, true), found.end_at(node, false)) {
-        (Some(hit), Some(miss)) => Ok(Classification::Both {
-            hit: way_of(alloc, view.graph(), &found.search, hit)?,
-            miss: way_of(alloc, view.graph(), &found.search, miss)?,
-        }),
-        (Some(_), None) => Ok(Classification::Hits),
-        (None, _) => Ok(Classification::Misses),
+impl<'v, 'g> Judgement<'v, 'g> {
+    /// What the paths can do that end in a node, which fetches the block. Takes no memory.
+    pub fn classification(&self, node: u32) -> Classification
+        requires { fetch_at self.now.view.fetches node ≡ Some self.now.block }
+        ensures { IsClassification self.now node result }
+    {
+        view_laws();
+        let view = self.view;
+        let found = &self.found;
+        match (found.end_at(node, true), found.end_at(node, false)) {
+            (Some(_), Some(_)) => Classification::Both,
+            (Some(_), None) => Classification::Hits,
+            (None, _) => Classification::Misses,
+        }
+    }
+
+    /// A path that ends in a node, which fetches the block, and can hit there, or can miss where `hits` is false, with
+    /// its first member first. `None` exactly where no path can. The error is out of memory. It takes time and memory in
+    /// the order of the path's length, which should be the shortest; that is not proved.
+    pub fn path(&self, alloc: Global, node: u32, hits: bool) -> Result<Option<Vec<u32>>, AllocError>
+        requires { fetch_at self.now.view.fetches node ≡ Some self.now.block }
+        ensures some { IfOk result (λ found. IfSome found (λ path.
+            IsPathTo self.now.view.nodes self.now.view.geometry self.now.start node hits (reverse path.items))) }
+        ensures none { IfOk result (λ found. IfNone found (
+            AllEnd self.now.view.nodes self.now.view.geometry self.now.start node (not hits))) }
+    {
+        view_laws();
+        let found = &self.found;
+        match found.end_at(node, hits) {
+            Some(entry) => Ok(Some(trace(alloc, self.view.graph(), &found.search, entry)?)),
+            None => Ok(None),
+        }
     }
 }

@@ -16,5 +16,5 @@ mod settling;
 #[cfg(test)]
 mod tests;
 
-pub use judging::{Classification, Judged, judge};
+pub use judging::{Classification, Judgement, judge};
 pub use settling::{Fate, PlainPlace, PlainSettled, settle};

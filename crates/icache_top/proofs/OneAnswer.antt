@@ -6,7 +6,7 @@ use Rattle.elf_spec.specs.declared.fault.ElfFault.{ElfFault}
 use Rattle.flow_spec.specs.declared.fault.FlowFault.{FlowFault}
 use Rattle.flow_spec.specs.Acceptance.{IsRefused}
 use Rattle.flow_spec.specs.Program.{Program}
-use Rattle.flow_spec.specs.Configuration.{Configuration, fetched}
+use Rattle.flow_spec.specs.Configuration.{fetched}
 use Rattle.flow_spec.specs.Successors.{successors}
 use Rattle.cache_spec.specs.Blocks.{HaveMany}
 use Rattle.command_spec.specs.declared.settings.Settings.{Settings}

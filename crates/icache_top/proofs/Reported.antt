@@ -8,7 +8,7 @@ use Rattle.flow_spec.specs.Program.{Program}
 use Rattle.flow_spec.specs.Configuration.{Configuration, fetched}
 use Rattle.flow_spec.specs.Successors.{successors}
 use Rattle.path_model.specs.declared.graph.Node.{Node}
-use Rattle.report_spec.specs.declared.line.Verdict.{Verdict}
+use Rattle.node_spec.specs.declared.verdict.NodeVerdict.{NodeVerdict}
 use Rattle.report_spec.specs.Text.{text_of}
 use Rattle.call_expand.specs.Expansion.{Expansion, IsNodeOf, IsGraphOf}
 use Rattle.command_spec.specs.declared.settings.Ask.TheVariants.{Report}
@@ -18,6 +18,8 @@ use Rattle.node_verdicts.specs.Verdicts.{AreRight, IsFault}
 use Rattle.path_model.specs.Graph.{addresses_of as node_addresses}
 use Rattle.node_verdicts.specs.ViewFault.{ViewFault}
 use Rattle.node_verdicts.specs.ViewFault.TheVariants as faults
+use Rattle.node_spec.specs.declared.verdict.Kept.{Kept}
+use Rattle.node_spec.specs.Verdict.{HaveWays, kept_for}
 use Rattle.node_spec.specs.Plan.{Layout, layout}
 use Rattle.report_lines.specs.Findings.{IsWithin, AreFindings}
 use Rattle.report_lines.proofs.Made.{report}
@@ -75,21 +77,22 @@ module _ (program : Program) (ask : ReportAsk) (expanded : Expansion)
   many faults.OutOfMemory is = tt
 
   -- right verdicts of all nodes are findings
-  pub findings : (nodes : List Node) (verdicts : List Verdict) → nodes ≡ expanded.nodes → IsWithin program.isa program.image
+  pub findings : (nodes : List Node) (verdicts : List NodeVerdict) → nodes ≡ expanded.nodes → IsWithin program.isa program.image
       → length verdicts ≡ length nodes
-      → AreRight nodes ask.geometry ask.start verdicts
-      → AreFindings program ask.geometry ask.start expanded.configurations expanded.nodes verdicts
-  findings nodes verdicts same within one_each right = record {
+      → AreRight nodes ask.geometry ask.start verdicts → HaveWays nodes verdicts (kept_for ask.contexts)
+      → AreFindings program ask.geometry ask.start ask.contexts expanded.configurations expanded.nodes verdicts
+  findings nodes verdicts same within one_each right ways = record {
     within = within;
     accepted = accepted;
     graph = graph;
     one_each = one_each ∙ ap (λ (ns : List Node). length ns) same;
     right = subst (λ (ns : List Node). AreRight ns ask.geometry ask.start verdicts) same right;
+    ways = subst (λ (ns : List Node). HaveWays ns verdicts (kept_for ask.contexts)) same ways;
   }
 
   -- all lines are the text that is wanted
-  wanted : (verdicts : List Verdict)
-      → AreFindings program ask.geometry ask.start expanded.configurations expanded.nodes verdicts
+  wanted : (verdicts : List NodeVerdict)
+      → AreFindings program ask.geometry ask.start ask.contexts expanded.configurations expanded.nodes verdicts
       → HaveFewInAll (node_addresses expanded.nodes) ask.geometry → (Sent : List ℕ → Type 0)
       → SendsAll ask.contexts on verdicts Sent
       → (text : List ℕ) × IsAcceptedWith program (λ layers. IsTextFrom (Report ask) program layers text)
@@ -101,7 +104,7 @@ module _ (program : Program) (ask : ReportAsk) (expanded : Expansion)
       accepted.1,
       (
         subst (λ (addresses : List ℕ). HaveFewInAll addresses ask.geometry) addresses_same few,
-        report program ask.geometry ask.start expanded.configurations expanded.nodes verdicts found ask.contexts
+        report program ask.geometry ask.start ask.contexts expanded.configurations expanded.nodes verdicts found
             lines all,
       ),
     ),
@@ -109,22 +112,26 @@ module _ (program : Program) (ask : ReportAsk) (expanded : Expansion)
   )
 
   -- what the search for verdicts found of the graph's nodes, where it found some
-  module _ {V : Type 0} (items : V → List Verdict) (nodes : List Node) (result : Result V ViewFault) (kept : V)
-      (now : List Verdict)
+  module _ {V : Type 0} (items : V → List NodeVerdict) (nodes : List Node) (result : Result V ViewFault) (kept : V)
+      (now : List NodeVerdict)
       (was : settled_as result ≡ Ok kept) (is_now : now ≡ items kept) (same : nodes ≡ expanded.nodes)
       (within : IsWithin program.isa program.image)
       (one_each : IfOk result (λ v. length (items v) ≡ length nodes))
-      (right : IfOk result (λ v. AreRight nodes ask.geometry ask.start (items v))) where
+      (right : IfOk result (λ v. AreRight nodes ask.geometry ask.start (items v)))
+      (kinds : Kept) (kinds_are : kinds ≡ kept_for ask.contexts)
+      (ways : IfOk result (λ v. HaveWays nodes (items v) kinds)) where
     -- its findings are right
-    pub found_now : AreFindings program ask.geometry ask.start expanded.configurations expanded.nodes now
+    pub found_now : AreFindings program ask.geometry ask.start ask.contexts expanded.configurations expanded.nodes now
     found_now =
         let found = settled_ok result kept was in
-        subst (λ (vs : List Verdict). AreFindings program ask.geometry ask.start expanded.configurations
+        subst (λ (vs : List NodeVerdict). AreFindings program ask.geometry ask.start ask.contexts expanded.configurations
         expanded.nodes vs)
         (sym is_now)
         (findings nodes (items kept) same within (ok_at (λ v. length (items v) ≡ length nodes) result kept found
         one_each)
-        (ok_at (λ v. AreRight nodes ask.geometry ask.start (items v)) result kept found right))
+        (ok_at (λ v. AreRight nodes ask.geometry ask.start (items v)) result kept found right)
+        (subst (λ (k : Kept). HaveWays nodes (items kept) k) kinds_are
+        (ok_at (λ v. HaveWays nodes (items v) kinds) result kept found ways)))
 
     -- and their lines are the text that is wanted
     pub wanted_now : IfOk result (λ v. HaveFewInAll (node_addresses nodes) ask.geometry) → (Sent : List ℕ → Type 0)

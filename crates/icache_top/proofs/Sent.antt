@@ -1,18 +1,18 @@
 -- A report's text, line after line.
 use Rattle.std.proofs.Common.{◌≡◌, ℕ, List, [], ◌∷◌, ◌++◌, refl, sym, ap, subst, ◌∙◌, append-nil, append_assoc, inl, inr, arith}
 use Rattle.std.specs.Prelude.{Bool, true, false, Option, Some, None, Result, Ok, Err, OnErr}
-use Rattle.std.specs.List.{list_all}
 use Rattle.flow_spec.specs.Program.{program}
 use Rattle.byte_port.specs.Stream.{SendsPrefix}
 use Rattle.line_sender.specs.Pending.{Pending}
 use Rattle.line_sender.proofs.Pending.{Pending-line, Pending-trans, SendsPrefix-line, SendsPrefix-more, SendsPrefix-none, SendsPrefix-pending}
 use Rattle.line_sender.proofs.Text.{text_of-append}
+use Rattle.node_spec.specs.Verdict.{HaveWays, kept_for}
 use Rattle.node_spec.specs.Plan.{Layout, IsByAddress, IsByNumber}
 use Rattle.report_spec.specs.declared.line.Line.{Line}
-use Rattle.report_spec.specs.declared.line.Verdict.{Verdict}
+use Rattle.node_spec.specs.declared.verdict.NodeVerdict.{NodeVerdict}
 use Rattle.report_spec.specs.Text.{line_text, text_of}
 use Rattle.report_lines.specs.Lines.{Stands, AreAllFrom, AreAllBefore}
-use Rattle.report_spec.specs.Valid.{is_valid_verdict}
+use Rattle.node_spec.specs.Valid.{AreValid}
 use Rattle.report_lines.proofs.Made.{rest}
 use Rattle.report_lines.proofs.Valid.{right_valid}
 use Rattle.icache_top.specs.Lines.{AreFound, SendsAll, SendsNext, SendsPart}
@@ -54,7 +54,7 @@ module _ (At : ℕ → Option (Line × Option ℕ) → Type 0) where
         (Pending-line a b c buffer left (text_of head) (line_text line) pending sent),
   )
 
-module _ (contexts : Bool) (on : Layout) (verdicts : List Verdict) (found : AreFound on verdicts) where
+module _ (contexts : Bool) (on : Layout) (verdicts : List NodeVerdict) (found : AreFound contexts on verdicts) where
   abbrev At : ℕ → Option (Line × Option ℕ) → Type 0
   At = Stands contexts on verdicts
 
@@ -62,7 +62,7 @@ module _ (contexts : Bool) (on : Layout) (verdicts : List Verdict) (found : AreF
   there : (cursor : Option ℕ) → (lines : List Line) × AreAllFrom At cursor lines
   there cursor =
       let (line, entry, g, start, findings) = found in
-      rest (program on.image on.isa line entry) g start on.configurations on.nodes verdicts findings contexts cursor
+      rest (program on.image on.isa line entry) g start contexts on.configurations on.nodes verdicts findings cursor
 
   -- a prefix of what stands before a cursor was sent
   part_before : (a c : Option (List ℕ)) (head : List Line) (cursor : Option ℕ) → AreAllBefore At cursor head
@@ -92,13 +92,18 @@ module _ (contexts : Bool) (on : Layout) (verdicts : List Verdict) (found : AreF
   none_sent a = let (lines, all) = there (Some 0) in (lines, all, SendsPrefix-none a (text_of lines))
 
 -- the verdicts that were found are valid
-pub found_valid : (on : Layout) (verdicts : List Verdict) → AreFound on verdicts
-    → list_all is_valid_verdict verdicts ≡ true
-found_valid on verdicts (line, entry, g, start, found) =
+pub found_valid : (contexts : Bool) (on : Layout) (verdicts : List NodeVerdict) → AreFound contexts on verdicts
+    → AreValid verdicts
+found_valid contexts on verdicts (line, entry, g, start, found) =
     right_valid on.nodes g start verdicts (λ n below. found.right n (omega (arith, below, found.one_each)))
 
+-- and have the ways that the lines need
+pub found_ways : (contexts : Bool) (on : Layout) (verdicts : List NodeVerdict) → AreFound contexts on verdicts
+    → HaveWays on.nodes verdicts (kept_for contexts)
+found_ways contexts on verdicts (line, entry, g, start, found) = found.ways
+
 -- which line stands at a cursor, either way
-pub stands : (contexts : Bool) (on : Layout) (verdicts : List Verdict) (from : ℕ) (at : Option (Line × Option ℕ))
+pub stands : (contexts : Bool) (on : Layout) (verdicts : List NodeVerdict) (from : ℕ) (at : Option (Line × Option ℕ))
     → (contexts ≡ false → IsByAddress on verdicts from at)
     → (contexts ≡ true → IsByNumber on.configurations verdicts from at) → Stands contexts on verdicts from at
 stands true on verdicts from at by_address by_number = by_number refl

@@ -5,7 +5,7 @@ use Rattle.flow_spec.specs.Program.{program}
 use Rattle.cache_spec.specs.Geometry.{Geometry}
 use Rattle.cache_spec.specs.declared.start.Start.{Start}
 use Rattle.report_spec.specs.declared.line.Line.{Line}
-use Rattle.report_spec.specs.declared.line.Verdict.{Verdict}
+use Rattle.node_spec.specs.declared.verdict.NodeVerdict.{NodeVerdict}
 use Rattle.report_spec.specs.Text.{text_of, line_text}
 use Rattle.line_sender.specs.Pending.{IsPending}
 use Rattle.node_spec.specs.Plan.{Layout, layout}
@@ -13,14 +13,16 @@ use Rattle.report_lines.specs.Findings.{AreFindings}
 use Rattle.icache_top.specs.declared.report.Findings.{Findings}
 use Rattle.report_lines.specs.Lines.{Stands, AreAllBefore, AreAllFrom}
 
--- the verdicts are right of an expanded program, for some size of its lines and some entry
-abbrev pub AreFound : Layout → List Verdict → Type 0
-AreFound layout verdicts =
+-- the verdicts are right of an expanded program, for some size of its lines and some entry, and have the ways that its
+-- lines need
+abbrev pub AreFound : Bool → Layout → List NodeVerdict → Type 0
+AreFound contexts layout verdicts =
     (line : ℕ) × (entry : ℕ) × (g : Geometry) × (start : Start)
-    × AreFindings (program layout.image layout.isa line entry) g start layout.configurations layout.nodes verdicts
+    × AreFindings (program layout.image layout.isa line entry) g start contexts layout.configurations layout.nodes
+    verdicts
 
 -- the lines are all those of the program, and their text was sent
-abbrev pub SendsAll : Bool → Layout → List Verdict → (List ℕ → Type 0) → Type 0
+abbrev pub SendsAll : Bool → Layout → List NodeVerdict → (List ℕ → Type 0) → Type 0
 SendsAll contexts layout verdicts Sent =
     (lines : List Line) × AreAllFrom (Stands contexts layout verdicts) (Some 0) lines × Sent (text_of lines)
 
@@ -29,9 +31,9 @@ abbrev pub layout_of : Findings → Layout
 layout_of found =
     layout found.image.now found.isa found.expanded.now.configurations found.expanded.now.nodes
 
--- the verdicts of what was found are right
-abbrev pub HaveFound : Findings → Type 0
-HaveFound found = AreFound (layout_of found) found.verdicts.now
+-- the verdicts of what was found are right, and have those ways
+abbrev pub HaveFound : Bool → Findings → Type 0
+HaveFound contexts found = AreFound contexts (layout_of found) found.verdicts.now
 
 -- which line stands at a cursor, by what was found
 abbrev pub StandsIn : Bool → Findings → ℕ → Option (Line × Option ℕ) → Type 0

@@ -10,18 +10,18 @@ use byte_port::{Sink, SinkFault};
 use call_expand::{Expanded, Isa};
 use elf_image::Image;
 use line_sender::{PIECE, finish, send_line};
+use node_spec::NodeVerdict;
 use report_plan::Plan;
 use std::alloc::Global;
-use verdict_report::Verdict;
 
 /// What was found of an accepted program, whose instructions are those of `isa`: its configurations as a graph, and the
-/// verdict of each.
+/// verdict of each, with the ways that its lines need.
 #[derive(Clone, Copy)]
 pub(crate) struct Findings<'p> {
     pub(crate) image: &'p Image,
     pub(crate) isa: Isa,
     pub(crate) expanded: &'p Expanded,
-    pub(crate) verdicts: &'p [Verdict],
+    pub(crate) verdicts: &'p [NodeVerdict],
 }
 
 /// Sends the report of a program, by address or with a line for each configuration. After an error the sink has a
@@ -32,7 +32,7 @@ pub(crate) fn send_report<O: Sink>(
     found: &Findings,
     contexts: bool,
 ) -> Result<(), SinkFault>
-    requires { HaveFound found.now }
+    requires { HaveFound contexts found.now }
     ensures whole { OnOk result (SendsReport contexts found.now (Sends O.Sink out.old out.new)) }
     ensures part { OnErr result (SendsReport contexts found.now (SendsPrefixOf O.Sink out.old out.new)) }
     ensures faults { CountsFaults result (O.faults out.old) (O.faults out.new) }
@@ -59,7 +59,7 @@ fn send_from<O: Sink>(
     from: u32,
 ) -> Result<Option<u32>, SinkFault>
     requires plan { IsPlanOf found.now.expanded.now.nodes plan.now }
-    requires found { HaveFound found.now }
+    requires found { HaveFound contexts found.now }
     ensures order { IfOk result (λ next. left_from next < left_from (Some from)) }
     ensures pending { IfOk result (SendsNext (StandsIn contexts found.now) from
         (IsPending O.Sink out.old out.new buffer.new.items) buffer.old.items) }

@@ -5,6 +5,7 @@ ghost use Rattle.command_spec.specs.Settings.{settings_of, HasGraphLine};
 ghost use Rattle.top_words.specs.Views.{bytes_of};
 ghost use Rattle.top_words.specs.FaultText.{fault_text};
 ghost use Rattle.top_words.specs.Status.{KeepsMemoryApart};
+ghost use Rattle.node_spec.specs.Verdict.{kept_for};
 ghost use Rattle.report_lines.specs.Findings.{IsWithin};
 ghost use Rattle.icache_top.specs.Answer.{Answers, CountsOut, CountsOutRefusals, CountsSource, Decides, ReadsFor, SaysOf, SaysOfProgram, Tells, WritesFor, program_for, settled_as, status_of, file_limit};
 
@@ -15,11 +16,11 @@ use byte_port::{Sink, Source, read_all};
 use call_expand::expand;
 use command_spec::{Ask, GraphAsk, ReportAsk, Settings};
 use elf_image::Image;
+use node_spec::{Kept, NodeVerdict};
 use node_verdicts::{ViewFault, node_verdicts};
 use std::alloc::Global;
 use std::thread::Threads;
 use top_words::{explain, read_words};
-use verdict_report::Verdict;
 
 /// The most bytes that a file may have.
 const FILE_LIMIT: usize = 16777216;
@@ -151,7 +152,8 @@ fn classify<O: Sink>(
     ensures memory { KeepsMemoryApart (status_of result) }
 {
     let expanded = expand(alloc, image, entry, ask.isa, ask.geometry.line())?;
-    let verdicts = settled(node_verdicts(alloc, expanded.graph(), &ask.geometry, ask.start))?;
+    let kept = kept_for(ask.contexts);
+    let verdicts = settled(node_verdicts(alloc, expanded.graph(), &ask.geometry, ask.start, kept))?;
     let found = Findings {
         image,
         isa: ask.isa,
@@ -183,8 +185,19 @@ fn graph<O: Sink>(
     Ok(())
 }
 
+/// Where the lines of a report need ways.
+fn kept_for(contexts: bool) -> Kept
+    ensures { result ≡ kept_for contexts }
+{
+    if contexts {
+        Kept::EachNode
+    } else {
+        Kept::EachAddress
+    }
+}
+
 /// The verdicts that were found, or why there are none, as a status.
-fn settled(found: Result<Vec<Verdict>, ViewFault>) -> Result<Vec<Verdict>, Status>
+fn settled(found: Result<Vec<NodeVerdict>, ViewFault>) -> Result<Vec<NodeVerdict>, Status>
     ensures { result ≡ settled_as found }
 {
     match found {

@@ -3,3 +3,4 @@ pub use Rattle.path_model.specs.Graph
 pub use Rattle.focus_spec.specs.Fate
 pub mod Verdict
 pub mod Plan
+pub mod Valid

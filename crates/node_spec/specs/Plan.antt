@@ -17,6 +17,8 @@ use Rattle.report_spec.specs.declared.line.Line.{Line}
 use Rattle.report_spec.specs.declared.line.Line.TheVariants.{At, Context, Unreachable}
 use Rattle.report_spec.specs.declared.line.Verdict.{Verdict}
 use Rattle.report_spec.specs.declared.line.Verdict.TheVariants.{AlwaysHit, AlwaysMiss, Unknown}
+use Rattle.node_spec.specs.declared.verdict.NodeVerdict.{NodeVerdict}
+use Rattle.node_spec.specs.declared.verdict.NodeVerdict.TheVariants.{Hits, Misses, Both}
 use Rattle.report_spec.specs.Inner.{step_of}
 use Rattle.report_spec.specs.Report.{range_addresses}
 
@@ -42,29 +44,30 @@ NamesPathTo nodes n way = (earlier : List ℕ) × IsPath (graph_step nodes) 0 (n
     × Names (graph_step nodes) way (n ∷ earlier)
 
 -- the verdict's own way to a hit, or to a miss where `hits` is false; or any way to a node where each path ends so
-abbrev pub IsVerdictWay : List Node → ℕ → Verdict → Bool → Way → Type 0
-IsVerdictWay nodes n AlwaysHit hits way = IsTrue hits × NamesPathTo nodes n way
-IsVerdictWay nodes n AlwaysMiss hits way = IsFalse hits × NamesPathTo nodes n way
-IsVerdictWay nodes n (Unknown hit miss) hits way = way ≡ (if hits then hit else miss)
+abbrev pub IsVerdictWay : List Node → ℕ → NodeVerdict → Bool → Way → Type 0
+IsVerdictWay nodes n Hits hits way = IsTrue hits × NamesPathTo nodes n way
+IsVerdictWay nodes n Misses hits way = IsFalse hits × NamesPathTo nodes n way
+IsVerdictWay nodes n (Both None) hits way = ⊥
+IsVerdictWay nodes n (Both (Some ways)) hits way = way ≡ (if hits then ways.hit else ways.miss)
 
 -- the node has a verdict, and the way is one to a hit, or to a miss, by it
-abbrev pub IsNodeWay : List Node → List Verdict → ℕ → Bool → Way → Type 0
+abbrev pub IsNodeWay : List Node → List NodeVerdict → ℕ → Bool → Way → Type 0
 IsNodeWay nodes verdicts n hits way =
-    (verdict : Verdict) × (slice_get verdicts n ≡ Some verdict) × IsVerdictWay nodes n verdict hits way
+    (verdict : NodeVerdict) × (slice_get verdicts n ≡ Some verdict) × IsVerdictWay nodes n verdict hits way
 
 -- the way is one to a hit, or to a miss, of a node at the address
-abbrev pub IsWayAt : List Node → List Verdict → ℕ → Bool → Way → Type 0
+abbrev pub IsWayAt : List Node → List NodeVerdict → ℕ → Bool → Way → Type 0
 IsWayAt nodes verdicts address hits way = (n : ℕ) × IsNodeAt nodes address n × IsNodeWay nodes verdicts n hits way
 
 -- some node is at the address, and each node there has the verdict
-pub record AllHave (nodes : List Node) (verdicts : List Verdict) (address : ℕ) (verdict : Verdict) : Type 0 where
+pub record AllHave (nodes : List Node) (verdicts : List NodeVerdict) (address : ℕ) (verdict : NodeVerdict) : Type 0 where
   pub some : (n : ℕ) × IsNodeAt nodes address n
   pub each : (n : ℕ) → IsNodeAt nodes address n → slice_get verdicts n ≡ Some verdict
 
 -- the one verdict of all nodes at an address
-abbrev pub IsMerged : List Node → List Verdict → ℕ → Verdict → Type 0
-IsMerged nodes verdicts address AlwaysHit = AllHave nodes verdicts address AlwaysHit
-IsMerged nodes verdicts address AlwaysMiss = AllHave nodes verdicts address AlwaysMiss
+abbrev pub IsMerged : List Node → List NodeVerdict → ℕ → Verdict → Type 0
+IsMerged nodes verdicts address AlwaysHit = AllHave nodes verdicts address Hits
+IsMerged nodes verdicts address AlwaysMiss = AllHave nodes verdicts address Misses
 IsMerged nodes verdicts address (Unknown hit miss) =
     IsWayAt nodes verdicts address true hit × IsWayAt nodes verdicts address false miss
 
@@ -107,7 +110,7 @@ pub record IsBareRange (layout : Layout) (first last : ℕ) : Type 0 where
   pub greatest : IsBare layout (last + step_of layout.isa) → ⊥
 
 -- the line that begins at an address
-abbrev pub IsLineAt : Layout → List Verdict → ℕ → Line → Type 0
+abbrev pub IsLineAt : Layout → List NodeVerdict → ℕ → Line → Type 0
 IsLineAt layout verdicts address (At at verdict) = (at ≡ address) × IsMerged layout.nodes verdicts address verdict
 IsLineAt layout verdicts address (Unreachable first last) = (first ≡ address) × IsBareRange layout first last
 IsLineAt layout verdicts address (Context node at depth back verdict) = ⊥
@@ -120,23 +123,31 @@ last_of (Unreachable first last) = last
 
 -- the first line by address from a cursor on, and the address of the next one after it, if there is one; none where no
 -- address with a line is left
-abbrev pub IsByAddress : Layout → List Verdict → ℕ → Option (Line × Option ℕ) → Type 0
+abbrev pub IsByAddress : Layout → List NodeVerdict → ℕ → Option (Line × Option ℕ) → Type 0
 IsByAddress layout verdicts from None = IsNextLine layout from None
 IsByAddress layout verdicts from (Some (line, next)) =
     (address : ℕ) × IsNextLine layout from (Some address) × IsLineAt layout verdicts address line
     × IsNextLine layout (last_of line + 1) next
 
+-- the verdict of a line for that of a node
+abbrev pub IsVerdictOf : Option NodeVerdict → Verdict → Type 0
+IsVerdictOf None verdict = ⊥
+IsVerdictOf (Some Hits) verdict = verdict ≡ AlwaysHit
+IsVerdictOf (Some Misses) verdict = verdict ≡ AlwaysMiss
+IsVerdictOf (Some (Both None)) verdict = ⊥
+IsVerdictOf (Some (Both (Some ways))) verdict = verdict ≡ Unknown ways.hit ways.miss
+
 -- the line of the configuration with a number
-abbrev pub IsLineOf : List Configuration → List Verdict → ℕ → Line → Type 0
+abbrev pub IsLineOf : List Configuration → List NodeVerdict → ℕ → Line → Type 0
 IsLineOf configurations verdicts number (Context node at depth back verdict) =
-    (node ≡ number) × (slice_get verdicts number ≡ Some verdict)
+    (node ≡ number) × IsVerdictOf (slice_get verdicts number) verdict
     × ((c : Configuration) × (slice_get configurations number ≡ Some c) × (at ≡ fetched c) × (depth ≡ length c.frames)
     × (back ≡ option_map (λ frame. frame.back) (newest c.frames)))
 IsLineOf configurations verdicts number (At at verdict) = ⊥
 IsLineOf configurations verdicts number (Unreachable first last) = ⊥
 
 -- the line of a configuration, and the number after its own, if there is one; none where the number is that of none
-abbrev pub IsByNumber : List Configuration → List Verdict → ℕ → Option (Line × Option ℕ) → Type 0
+abbrev pub IsByNumber : List Configuration → List NodeVerdict → ℕ → Option (Line × Option ℕ) → Type 0
 IsByNumber configurations verdicts from None = length configurations ≤ from
 IsByNumber configurations verdicts from (Some (line, next)) =
     IsLineOf configurations verdicts from line

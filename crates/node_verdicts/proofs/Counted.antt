@@ -9,7 +9,7 @@ use Rattle.path_model.specs.Graph.{address_of, addresses_of}
 use Rattle.focus_spec.specs.Younger.{named, fetch_at}
 use Rattle.set_view.specs.View.{View, IsView}
 use Rattle.cache_spec.specs.Blocks.{block_in, HaveFew}
-use Rattle.node_verdicts.specs.Verdicts.{set_at}
+use Rattle.node_verdicts.specs.Judged.{set_at}
 
 -- an address is that of a node
 node_of : (nodes : List Node) (address : ℕ) → Contains (addresses_of nodes) address
@@ -34,7 +34,7 @@ set_is_by g set address block true is some = grind (arith, nat_tests, is)
 set_is_by g set address block false is none = absurd (cc none)
 
 -- an address in a block of the set lies in the set
-set_is : (g : Geometry) (set address block : ℕ) → block_in g set address ≡ Some block
+pub set_is : (g : Geometry) (set address block : ℕ) → block_in g set address ≡ Some block
     → set_of g (block_of g address) ≡ set
 set_is g set address block some = set_is_by g set address block (set_of g (block_of g address) == set) refl some
 

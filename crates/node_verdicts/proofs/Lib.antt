@@ -1,4 +1,8 @@
-pub mod Noted
 pub mod Counted
+pub mod Block
+pub mod Joined
 pub mod Viewed
-pub mod Sets
+pub mod Spans
+pub mod Lifted
+pub mod Noted
+pub mod Right

@@ -20,7 +20,7 @@ use Rattle.report_spec.specs.Inner.{IsAt}
 use Rattle.report_spec.specs.Report.{range_addresses, IsRightLine, IsContextLine, AreContextLines}
 use Rattle.report_spec.specs.Right.{NamesFate, IsRight}
 use Rattle.report_spec.specs.Valid.{is_valid_way, is_valid_verdict, has_back_as_deep, is_valid}
-use Rattle.node_spec.proofs.Ways.{way_valid}
+use Rattle.node_spec.proofs.Valid.{way_valid}
 use Rattle.report_lines.proofs.Steps.{address_place, after_least}
 
 -- a range that holds its last address doesn't end before it begins

@@ -1,6 +1,6 @@
 -- The lines of a report by address: each address that has a line stands in one, and each line is right.
 use Rattle.std.proofs.Common.{ℕ, ◌+◌, List, [], ◌∷◌, ◌++◌, subst, sym, arith, Option, Some, None}
-use Rattle.std.specs.Prelude.{flat_map}
+use Rattle.std.specs.Prelude.{false, flat_map}
 use Rattle.std.specs.List.{AllByRecursion}
 use Rattle.cache_spec.specs.Geometry.{Geometry}
 use Rattle.cache_spec.specs.declared.start.Start.{Start}
@@ -9,7 +9,7 @@ use Rattle.flow_spec.specs.Configuration.{Configuration}
 use Rattle.path_model.specs.declared.graph.Node.{Node}
 use Rattle.report_spec.specs.declared.line.Line.{Line}
 use Rattle.report_spec.specs.declared.line.Line.TheVariants.{At, Context, Unreachable}
-use Rattle.report_spec.specs.declared.line.Verdict.{Verdict}
+use Rattle.node_spec.specs.declared.verdict.NodeVerdict.{NodeVerdict}
 use Rattle.report_spec.specs.Inner.{IsUnreached, step_of}
 use Rattle.report_spec.specs.Report.{range_addresses, addresses_from, addresses_of, IsRightLine, AreGreatest, AreByAddress}
 use Rattle.call_expand.proofs.Zipped.{all-weaker}
@@ -52,8 +52,8 @@ still_greatest layout first last (Unreachable next end ∷ lines) ends bare grea
     (λ same. ends (subst (IsBare layout) same bare), greatest)
 
 module _ (program : Program) (g : Geometry) (start : Start) (configurations : List Configuration)
-    (nodes : List Node) (verdicts : List Verdict)
-    (found : AreFindings program g start configurations nodes verdicts) where
+    (nodes : List Node) (verdicts : List NodeVerdict)
+    (found : AreFindings program g start false configurations nodes verdicts) where
   -- its layout
   abbrev laid : Layout
   laid = layout program.image program.isa configurations nodes
@@ -151,7 +151,7 @@ module _ (program : Program) (g : Geometry) (start : Start) (configurations : Li
       → AreByAddress program g start lines
   by_address lines all =
       let it = listed lines 0 all in
-      let line = has_line program g start configurations nodes verdicts found in
+      let line = has_line program g start false configurations nodes verdicts found in
       record {
         rising = it.addresses.rising;
         all = λ address. (

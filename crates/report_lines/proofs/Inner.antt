@@ -22,7 +22,7 @@ use Rattle.path_model.proofs.Reached.{node_reached}
 use Rattle.report_spec.specs.Inner.{IsAt, IsUnreached, IsReached, IsInner, HasLine}
 use Rattle.call_expand.specs.Expansion.{numbered}
 use Rattle.call_expand.proofs.Paths.{path_from, member_inside}
-use Rattle.report_spec.specs.declared.line.Verdict.{Verdict}
+use Rattle.node_spec.specs.declared.verdict.NodeVerdict.{NodeVerdict}
 use Rattle.node_spec.specs.Plan.{layout, IsBareOf, IsBegun, IsInnerIn, HasLineIn}
 use Rattle.report_lines.specs.Findings.{AreFindings}
 use Rattle.report_lines.proofs.Transport.{ends_in, some_fetches, at_address, bare_unreached}
@@ -102,9 +102,9 @@ module _ (program : Program) where
         (c ∷ earlier, subst (λ (e : Configuration). IsPathOf (e ∷ c ∷ earlier)) (sym (is_first d first)) (follows, path))
   ]
 
-module _ (program : Program) (g : Geometry) (start : Start) (configurations : List Configuration)
-    (nodes : List Node) (verdicts : List Verdict)
-    (found : AreFindings program g start configurations nodes verdicts) where
+module _ (program : Program) (g : Geometry) (start : Start) (contexts : Bool)
+    (configurations : List Configuration) (nodes : List Node) (verdicts : List NodeVerdict)
+    (found : AreFindings program g start contexts configurations nodes verdicts) where
   -- there is a node for each configuration
   long : length configurations ≡ length nodes
   long = sym (AllZip-long _ _ _ found.graph.each)

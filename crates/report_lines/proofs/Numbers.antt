@@ -14,10 +14,14 @@ use Rattle.path_model.specs.declared.graph.Node.{Node}
 use Rattle.report_spec.specs.declared.line.Line.{Line}
 use Rattle.report_spec.specs.declared.line.Line.TheVariants.{At, Context, Unreachable}
 use Rattle.report_spec.specs.declared.line.Verdict.{Verdict}
+use Rattle.report_spec.specs.declared.line.Verdict.TheVariants.{AlwaysHit, AlwaysMiss, Unknown}
+use Rattle.node_spec.specs.declared.verdict.NodeVerdict.{NodeVerdict}
+use Rattle.node_spec.specs.declared.verdict.NodeVerdict.TheVariants.{Hits, Misses, Both}
 use Rattle.report_spec.specs.Right.{IsRight}
 use Rattle.report_spec.specs.Report.{IsContextLine, AreContextLines}
 use Rattle.call_expand.specs.Expansion.{numbered}
-use Rattle.node_spec.specs.Plan.{IsLineOf, IsByNumber}
+use Rattle.node_spec.specs.Verdict.{HasWays}
+use Rattle.node_spec.specs.Plan.{IsVerdictOf, IsLineOf, IsByNumber}
 use Rattle.report_lines.specs.Findings.{AreFindings}
 use Rattle.report_lines.specs.Lines.{AreAllFrom}
 use Rattle.report_lines.proofs.Transport.{context_right}
@@ -38,8 +42,8 @@ drop_past (x ∷ xs) zero past = absurd (omega (arith, past))
 drop_past (x ∷ xs) (suc k) past = drop_past xs k (omega (arith, past))
 
 module _ (program : Program) (g : Geometry) (start : Start) (configurations : List Configuration)
-    (nodes : List Node) (verdicts : List Verdict)
-    (found : AreFindings program g start configurations nodes verdicts) where
+    (nodes : List Node) (verdicts : List NodeVerdict)
+    (found : AreFindings program g start true configurations nodes verdicts) where
   -- there is a node for each configuration
   long : length configurations ≡ length nodes
   long = sym (AllZip-long _ _ _ found.graph.each)
@@ -108,13 +112,27 @@ module _ (program : Program) (g : Geometry) (start : Start) (configurations : Li
       (after_number k lines (context_lines lines (k + 1)) next next_is later (nat_lt (k + 1) (length configurations))
       refl)
 
+  -- each node has the verdict of a line
+  verdict_there : (k : ℕ) (node : NodeVerdict) → slice_get verdicts k ≡ Some node
+      → (verdict : Verdict) × IsVerdictOf (slice_get verdicts k) verdict
+  verdict_there k Hits is = (AlwaysHit, subst (λ o. IsVerdictOf o AlwaysHit) (sym is) refl)
+  verdict_there k Misses is = (AlwaysMiss, subst (λ o. IsVerdictOf o AlwaysMiss) (sym is) refl)
+  verdict_there k (Both None) is =
+      let (m, kept) = found.ways k is in
+      let there : HasWays verdicts m × (m ≡ k) = kept in
+      let ((ways, has), same) = there in
+      let here = subst (λ (n : ℕ). slice_get verdicts n ≡ Some (Both (Some ways))) same has in absurd (cc (is, here))
+  verdict_there k (Both (Some ways)) is =
+      (Unknown ways.hit ways.miss, subst (λ o. IsVerdictOf o (Unknown ways.hit ways.miss)) (sym is) refl)
+
   -- each number of a configuration has its line
   line_there : (k : ℕ) → k < length configurations → (line : Line) × IsLineOf configurations verdicts k line
   line_there k below =
       let (c, is_c) = found-inside configurations k below in
-      let (v, is_v, right) = found.right k (omega (arith, below, long)) in (
-        Context k (fetched c) (length c.frames) (option_map (λ frame. frame.back) (newest c.frames)) v,
-        (refl, is_v, (c, is_c, refl, refl, refl)),
+      let (node, is, right) = found.right k (omega (arith, below, long)) in
+      let (verdict, of_node) = verdict_there k node is in (
+        Context k (fetched c) (length c.frames) (option_map (λ frame. frame.back) (newest c.frames)) verdict,
+        (refl, of_node, (c, is_c, refl, refl, refl)),
       )
 
   -- the number after one, where it is that of a configuration

@@ -4,6 +4,7 @@ use Rattle.std.specs.Prelude.{Bool, true, false, not, ◌==◌, ◌⊎◌, if◌
 use Rattle.std.specs.List.{AllByRecursion}
 use Rattle.std.proofs.lemmas.Bool.{cases_lt}
 use Rattle.std.proofs.lemmas.Bool.Decides.{nat_tests}
+use Rattle.std.proofs.lemmas.Option.{slice_get_within}
 use Rattle.list_lemmas.proofs.Members.{has-first, has-later}
 use Rattle.transition_spec.specs.declared.way.Way.{Way}
 use Rattle.transition_spec.specs.Path.{IsPath, HasChoices}
@@ -16,10 +17,14 @@ use Rattle.report_spec.specs.declared.line.Line.{Line}
 use Rattle.report_spec.specs.declared.line.Line.TheVariants.{At, Unreachable}
 use Rattle.report_spec.specs.declared.line.Verdict.{Verdict}
 use Rattle.report_spec.specs.declared.line.Verdict.TheVariants.{AlwaysHit, AlwaysMiss, Unknown}
+use Rattle.node_spec.specs.declared.verdict.NodeVerdict.{NodeVerdict}
+use Rattle.node_spec.specs.declared.verdict.NodeVerdict.TheVariants.{Hits, Misses, Both}
+use Rattle.node_spec.specs.declared.verdict.Kept.TheVariants.{EachAddress}
+use Rattle.node_spec.specs.Verdict.{HasWays, HaveWays}
 use Rattle.report_spec.specs.Inner.{step_of}
 use Rattle.report_spec.specs.Report.{range_addresses}
-use Rattle.node_spec.specs.Plan.{Layout, IsNodeAt, NamesPathTo, IsVerdictWay, IsWayAt, IsMerged, HasLineIn, IsNextLine, IsBare, IsBareRange, IsLineAt, IsByAddress, last_of}
-use Rattle.node_spec.proofs.Always.{always}
+use Rattle.node_spec.specs.Plan.{Layout, IsNodeAt, NamesPathTo, IsWayAt, IsMerged, HasLineIn, IsNextLine, IsBare, IsBareRange, IsLineAt, IsByAddress, last_of}
+use Rattle.node_spec.proofs.Always.{always_node}
 use Rattle.report_lines.specs.Findings.{IsWithin}
 use Rattle.report_lines.specs.Lines.{AreAllFrom}
 use Rattle.report_lines.proofs.Decided.{decide_node, decide_line, decide_bare}
@@ -44,23 +49,43 @@ way_there nodes n graph inside =
       (earlier, path, record { steps = refl; choices = has }),
     )
 
--- by each verdict there is a way to a hit, or no path hits; likewise for misses
-way_or_never : (nodes : List Node) (n : ℕ) (verdict : Verdict) (hits : Bool) → (way : Way) × NamesPathTo nodes n way
-    → ((way : Way) × IsVerdictWay nodes n verdict hits way) ⊎ (verdict ≡ always (not hits))
-way_or_never nodes n AlwaysHit true (way, names) = inl (way, (refl, names))
-way_or_never nodes n AlwaysHit false to = inr refl
-way_or_never nodes n AlwaysMiss true to = inr refl
-way_or_never nodes n AlwaysMiss false (way, names) = inl (way, (refl, names))
-way_or_never nodes n (Unknown hit miss) hits to = inl (if hits then hit else miss, refl)
+module _ (nodes : List Node) (verdicts : List NodeVerdict) (address : ℕ) (graph : IsGraph nodes)
+    (one_each : length verdicts ≡ length nodes)
+    (has : (n : ℕ) → n < length nodes → (verdict : NodeVerdict) × (slice_get verdicts n ≡ Some verdict))
+    (ways : HaveWays nodes verdicts EachAddress) where
+  -- some way is one to a hit of a node at the address, or to a miss
+  abbrev HasWay : Bool → Type 0
+  HasWay hits = (way : Way) × IsWayAt nodes verdicts address hits way
 
-module _ (nodes : List Node) (verdicts : List Verdict) (address : ℕ) (graph : IsGraph nodes)
-    (has : (n : ℕ) → n < length nodes → (verdict : Verdict) × (slice_get verdicts n ≡ Some verdict)) where
+  -- where paths to a node there can do both, ways are kept at one there
+  way_kept : (hits : Bool) (n : ℕ) → IsNodeAt nodes address n → slice_get verdicts n ≡ Some (Both None) → HasWay hits
+  way_kept hits n at is =
+      let (m, found) = ways n is in
+      let there : HasWays verdicts m × (address_of nodes m ≡ address_of nodes n) = found in
+      let ((kept, has_kept), same) = there in
+      let within = slice_get_within verdicts m (Both (Some kept)) has_kept in
+      let here : IsNodeAt nodes address m = record { inside = omega (arith, within, one_each); at = same ∙ at.at } in
+      (if hits then kept.hit else kept.miss, (m, here, (Both (Some kept), has_kept, refl)))
+
+  -- by each verdict there is a way to a hit, or no path hits; likewise for misses
+  way_or_never : (hits : Bool) (n : ℕ) (verdict : NodeVerdict) → IsNodeAt nodes address n
+      → slice_get verdicts n ≡ Some verdict → HasWay hits ⊎ (verdict ≡ always_node (not hits))
+  way_or_never true n Hits at is =
+      let (way, names) = way_there nodes n graph at.inside in inl (way, (n, at, (Hits, is, (refl, names))))
+  way_or_never false n Hits at is = inr refl
+  way_or_never true n Misses at is = inr refl
+  way_or_never false n Misses at is =
+      let (way, names) = way_there nodes n graph at.inside in inl (way, (n, at, (Misses, is, (refl, names))))
+  way_or_never hits n (Both None) at is = inl (way_kept hits n at is)
+  way_or_never hits n (Both (Some kept)) at is =
+      inl (if hits then kept.hit else kept.miss, (n, at, (Both (Some kept), is, refl)))
+
   -- each of the first nodes that is at the address has the verdict
-  abbrev Each : Verdict → ℕ → Type 0
+  abbrev Each : NodeVerdict → ℕ → Type 0
   Each verdict count = (n : ℕ) → n < count → IsNodeAt nodes address n → slice_get verdicts n ≡ Some verdict
 
   -- one node more, where it isn't at the address or has the verdict
-  each_more : (verdict : Verdict) (count : ℕ) → Each verdict count
+  each_more : (verdict : NodeVerdict) (count : ℕ) → Each verdict count
       → (IsNodeAt nodes address count → slice_get verdicts count ≡ Some verdict) → Each verdict (suc count)
   each_more verdict count each last n below at = by_test (n == count) refl where
     by_test : (same : Bool) → (n == count) ≡ same → slice_get verdicts n ≡ Some verdict
@@ -71,31 +96,31 @@ module _ (nodes : List Node) (verdicts : List Verdict) (address : ℕ) (graph : 
     by_test false same = let other : n < count = grind (arith, nat_tests, same, below) in each n other at
 
   -- a node that isn't at the address has any verdict where it is there
-  not_there : (count : ℕ) (verdict : Verdict) → (address_of nodes count == address) ≡ false
+  not_there : (count : ℕ) (verdict : NodeVerdict) → (address_of nodes count == address) ≡ false
       → IsNodeAt nodes address count
       → slice_get verdicts count ≡ Some verdict
   not_there count verdict is at = let here = at.at in absurd (grind (arith, nat_tests, is, here))
 
   -- a way to a hit at the address by one of the first nodes, or all of those there always miss; likewise for misses
   end_there : (hits : Bool) (count : ℕ) → count ≤ length nodes
-      → ((way : Way) × IsWayAt nodes verdicts address hits way) ⊎ Each (always (not hits)) count
+      → HasWay hits ⊎ Each (always_node (not hits)) count
   end_there hits zero few = inr (λ n below at. absurd (omega (arith, below)))
   end_there hits (suc count) few = elim (end_there hits count (omega (arith, few))) [
     | inl found ↦ inl found
     | inr each ↦ by_test each (address_of nodes count == address) refl
   ] where
-    by_verdict : Each (always (not hits)) count → IsNodeAt nodes address count → (verdict : Verdict)
+    by_verdict : Each (always_node (not hits)) count → IsNodeAt nodes address count → (verdict : NodeVerdict)
         → slice_get verdicts count ≡ Some verdict
-        → ((way : Way) × IsWayAt nodes verdicts address hits way) ⊎ Each (always (not hits)) (suc count)
+        → HasWay hits ⊎ Each (always_node (not hits)) (suc count)
     by_verdict each at verdict is =
-        elim (way_or_never nodes count verdict hits (way_there nodes count graph at.inside)) [
-          | inl (way, to) ↦ inl (way, (count, at, (verdict, is, to)))
-          | inr never ↦ inr (each_more (always (not hits)) count each (λ at. is ∙ ap Some never))
+        elim (way_or_never hits count verdict at is) [
+          | inl found ↦ inl found
+          | inr never ↦ inr (each_more (always_node (not hits)) count each (λ at. is ∙ ap Some never))
         ]
 
-    by_test : Each (always (not hits)) count → (here : Bool) → (address_of nodes count == address) ≡ here
-        → ((way : Way) × IsWayAt nodes verdicts address hits way) ⊎ Each (always (not hits)) (suc count)
-    by_test each false is = inr (each_more (always (not hits)) count each (not_there count (always (not hits)) is))
+    by_test : Each (always_node (not hits)) count → (here : Bool) → (address_of nodes count == address) ≡ here
+        → HasWay hits ⊎ Each (always_node (not hits)) (suc count)
+    by_test each false is = inr (each_more (always_node (not hits)) count each (not_there count (always_node (not hits)) is))
     by_test each true is =
         let here : address_of nodes count ≡ address = grind (arith, nat_tests, is) in
         let at : IsNodeAt nodes address count = record { inside = omega (arith, few); at = here } in
@@ -178,13 +203,15 @@ module _ (layout : Layout) (within : IsWithin layout.isa layout.image) where
         )
   ]
 
-  module _ (verdicts : List Verdict) (graph : IsGraph layout.nodes)
-      (has : (n : ℕ) → n < length layout.nodes → (verdict : Verdict) × (slice_get verdicts n ≡ Some verdict)) where
+  module _ (verdicts : List NodeVerdict) (graph : IsGraph layout.nodes)
+      (one_each : length verdicts ≡ length layout.nodes)
+      (has : (n : ℕ) → n < length layout.nodes → (verdict : NodeVerdict) × (slice_get verdicts n ≡ Some verdict))
+      (ways : HaveWays layout.nodes verdicts EachAddress) where
     -- the line at an address that has one
     line_there : (p : ℕ) → HasLineIn layout p → (line : Line) × IsLineAt layout verdicts p line × (p ≤ last_of line)
     line_there p here = elim (decide_node layout.nodes p) [
       | inl (n, at) ↦ let (verdict, merged) =
-          merged_there layout.nodes verdicts p graph has n at in (At p verdict, (refl, merged), omega arith)
+          merged_there layout.nodes verdicts p graph one_each has ways n at in (At p verdict, (refl, merged), omega arith)
       | inr none ↦
           let (last, n, at, range) = range_there (2 ^ 32) p (omega arith) (record { line = here; bare = none }) in
           (Unreachable p last, (refl, range), omega (arith, at, after_least step p n))

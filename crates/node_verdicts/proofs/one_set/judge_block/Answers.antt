@@ -1,60 +1,74 @@
-use Rattle.std.proofs.Common.{◌<◌, length, Some, subst, sym, arith}
-use Rattle.std.proofs.lemmas.List.Elements.{All-pop}
-use Rattle.std.specs.Prelude.{List}
-use Rattle.std.specs.List.{All}
-use Rattle.report_spec.specs.declared.line.Verdict.{Verdict}
-use Rattle.node_spec.specs.Verdict.{IsRightAt}
-use Rattle.node_verdicts.specs.Verdicts.{KeepRight, verdict_of}
-use Rattle.node_verdicts.specs.Noted.{IsJudged}
-use Rattle.node_verdicts.proofs.Noted.{keep_trans, noted_right, noted_keeps, classification_right, noted_more, fetch_inside, noted_none, all_judged, keep_refl}
+use Rattle.std.proofs.Common.{◌≡◌, ℕ, ◌+◌, List, Vec, Global, length, Some, sym, ap, ◌∙◌, subst, arith}
+use Rattle.std.specs.List.{Contains}
+use Rattle.cache_spec.specs.declared.start.Start.{Start}
+use Rattle.focus_plain.proofs.Equals.{same_number, other_number}
+use Rattle.focus_spec.specs.Younger.{fetch_at}
+use Rattle.set_view.specs.View.{View}
+use Rattle.node_verdicts.specs.Judged.{IsEnds, addresses_with}
+use Rattle.node_verdicts.specs.declared.judged.Judged.{Judged}
+use Rattle.node_verdicts.proofs.Block.{AreSoFar, so_far_passed, so_far_more, so_far_all, fetch_inside}
 use Rattle.node_verdicts.proofs.one_set.judge_block.Goals as goal
-use Rattle.node_verdicts.proofs.one_set.judge_block.Goals.{In-Some}
+use Rattle.node_verdicts.proofs.one_set.judge_block.Goals.{then-eq+in_ok-ends+in_ok-add, else-eq}
 
--- the node is judged right, and those that are left too
-judged_right : (c : In-Some)
-    → All (IsJudged c.args.view.now c.args.start c.args.block) c.pop.new.self.items
-    × IsJudged c.args.view.now c.args.start c.args.block c.in-Some.judged
-judged_right c =
-    All-pop (IsJudged c.args.view.now c.args.start c.args.block) c.loop-judged.found.items c.pop.new.self.items
-    (Some c.in-Some.judged) c.in-Some.ensures.items c.loop-judged.invariant.right
+pub ends_at-requires : goal.ends_at-requires
+ends_at-requires c =
+    let fetched = sym c.fetch.ensures ∙ same_number c.fetch.result c.args.block (sym c.eq.ensures ∙ c.if-eq.true) in
+    subst (λ (v : View). fetch_at v.fetches c.loop-node.node ≡ Some c.in_ok-found.found.block)
+    (sym c.in_ok-found.ensures.view) (fetched ∙ ap Some (sym c.in_ok-found.ensures.block))
 
--- its verdict has a slot
-slot_inside : (c : In-Some) → c.in-Some.judged.node < length c.loop-judged.verdicts.items
-slot_inside c =
-    let there = fetch_inside c.args.view.now.fetches c.in-Some.judged.node c.args.block (judged_right c).1.fetches in
-    omega (arith, there, c.loop-judged.invariant.keeps.as_many, c.requires.one_each, c.requires.view.one_each)
-
-pub loop-judged-preserved : goal.loop-judged-preserved
-loop-judged-preserved c =
-    let known = (goal.at.loop-judged-preserved c).In-Some in
+pub loop-node-preserved : goal.loop-node-preserved
+loop-node-preserved c =
     let view = c.args.view.now in
-    let judged = c.in-Some.judged in
-    let before = c.loop-judged.verdicts.items in
-    let verdict = verdict_of judged.classification in
-    let right = classification_right view c.args.start judged.node judged.classification (judged_right known).1.right in
-    let keeps : KeepRight view.nodes view.geometry c.args.start before c.note.new.verdicts.items =
-    subst (λ (now : List Verdict). KeepRight view.nodes view.geometry c.args.start before now) (sym c.note.ensures)
-    (noted_keeps view.nodes view.geometry c.args.start before judged.node verdict (slot_inside known) right) in
-    let there : IsRightAt view.nodes view.geometry c.args.start c.note.new.verdicts.items judged.node =
-    subst (λ (now : List Verdict). IsRightAt view.nodes view.geometry c.args.start now judged.node) (sym c.note.ensures)
-    (noted_right view.nodes view.geometry c.args.start before judged.node verdict (slot_inside known) right) in
-    record {
-      keeps = keep_trans _ _ _ _ _ _ c.loop-judged.invariant.keeps keeps;
-      right = (judged_right known).0;
-      noted = noted_more view c.args.start c.args.block c.loop-judged.found.items c.pop.new.self.items judged before _
-          c.in-Some.ensures.items keeps there c.loop-judged.invariant.noted;
-    }
+    let node = c.loop-node.node in
+    elim c.if-eq.branch [
+      | then-eq+in_ok-ends+in_ok-add w ↦
+          let fetched = sym c.fetch.ensures ∙ same_number c.fetch.result c.args.block
+          (sym c.eq.ensures ∙ w.if-eq.true) in
+          let found = c.in_ok-found.found in
+          let ends = w.in_ok-ends.ends in
+          let right =
+          subst (λ (v : View). IsEnds v.nodes v.geometry c.args.start node ends) c.in_ok-found.ensures.view
+          (subst (λ (s : Start). IsEnds found.view.nodes found.view.geometry s node ends) c.in_ok-found.ensures.start
+          w.in_ok-ends.ensures.ends) in
+          let addresses = c.loop-node.addresses.items in
+          so_far_more view c.args.start c.args.kept c.args.block node addresses c.loop-node.judged.items
+          c.loop-node.invariant fetched ends right
+          (λ none.
+          let spared = w.wants.ensures (w.in_ok-ends.ensures.spared none) in (
+            spared.0,
+            subst (λ (at : ℕ). Contains addresses at) w.address_of-at.ensures
+                (subst (λ (xs : List ℕ). Contains xs w.address_of-at.result) w.deref.ensures.value spared.1),
+          ))
+          c.if-eq.judged.items c.if-eq.addresses.items
+          (ap (λ (v : Vec Judged Global). v.items) w.judged-is ∙ w.in_ok-add.ensures.judged)
+          (ap (λ (v : Vec ℕ Global). v.items) w.addresses-is ∙ w.in_ok-add.ensures.addresses
+          ∙ ap (λ (at : ℕ). addresses_with ends at addresses) w.address_of-at.ensures)
+      | else-eq w ↦
+          let other = other_number c.fetch.result c.args.block (sym c.eq.ensures ∙ w.if-eq.false) in
+          subst (λ (js : List Judged).
+          AreSoFar view c.args.start c.args.kept c.args.block (node + 1) c.if-eq.addresses.items js)
+          (ap (λ (v : Vec Judged Global). v.items) (sym w.judged-is))
+          (subst (λ (xs : List ℕ).
+          AreSoFar view c.args.start c.args.kept c.args.block (node + 1) xs c.loop-node.judged.items)
+          (ap (λ (v : Vec ℕ Global). v.items) (sym w.addresses-is))
+          (so_far_passed view c.args.start c.args.kept c.args.block node c.loop-node.addresses.items
+          c.loop-node.judged.items c.loop-node.invariant (λ same. other (c.fetch.ensures ∙ same))))
+    ]
 
-pub loop-judged-init : goal.loop-judged-init
-loop-judged-init c =
+pub returns : goal.returns
+returns c =
     let view = c.args.view.now in
-    let found = c.in_ok-found.found.items in
-    record {
-      keeps = keep_refl view.nodes view.geometry c.args.start c.args.verdicts.now.items;
-      right = all_judged view c.args.start c.args.block found c.in_ok-found.ensures.nodes
-          c.in_ok-found.ensures.classifications;
-      noted = noted_none view c.args.start c.args.block found c.in_ok-found.ensures.nodes c.args.verdicts.now.items;
-    }
-
-pub note-requires : goal.note-requires
-note-requires c = slot_inside (goal.at.note-requires c).In-Some
+    let count : length c.nodes.result.now ≡ length view.nodes =
+    ap length (c.nodes.ensures.same ∙ c.graph.ensures.same) in
+    let all : length view.fetches ≡ c.loop-node.node =
+    omega (
+      arith,
+      count,
+      c.requires.view.one_each,
+      c.requires.view.graph.few,
+      c.loop-node-test.false,
+      c.loop-node.auto.node-end,
+    ) in
+    so_far_all view c.args.start c.args.kept c.args.block c.loop-node.node c.loop-node.addresses.items
+    c.loop-node.judged.items c.loop-node.invariant
+    (λ n fetched. omega (arith, all, fetch_inside view.fetches n c.args.block fetched))

@@ -1,24 +1,108 @@
-use Rattle.std.proofs.Common.{◌<◌, ◌∙◌, refl, arith}
-use Rattle.node_verdicts.specs.Verdicts.{set_at}
-use Rattle.node_verdicts.proofs.Sets.{right_sets, few_sets}
+use Rattle.std.proofs.Common.{ℕ, ◌<◌, List, Vec, Global, sym, subst, arith}
+use Rattle.cache_spec.specs.Geometry.{Geometry}
+use Rattle.focus_spec.specs.Fate.{PathCanEnd}
+use Rattle.line_blocks.specs.Expand.{IsExpanded}
+use Rattle.transition_spec.specs.Path.{IsPath}
+use Rattle.path_model.specs.Graph.{graph_step}
+use Rattle.node_verdicts.specs.Judged.{set_at}
+use Rattle.node_verdicts.specs.Ranges.{AreFew, IsFaultWithin}
+use Rattle.node_spec.specs.declared.verdict.NodeVerdict.{NodeVerdict}
+use Rattle.node_verdicts.specs.Noted.{IsAllNoted}
+use Rattle.node_verdicts.proofs.Right.{Laws, right_whole, ways_whole, few_all, fault_all}
+use Rattle.node_verdicts.proofs.Spans.{err_also, ok_as}
 use Rattle.node_verdicts.proofs.verdicts.node_verdicts.Goals as goal
+use Rattle.node_verdicts.proofs.verdicts.node_verdicts.Goals.{In_ok-blocks}
 
-pub loop-set-preserved : goal.loop-set-preserved
-loop-set-preserved c = record {
-  one_each = c.judge_set.ensures.keeps.as_many ∙ c.loop-set.invariant.one_each;
-  right = right_sets c.args.graph.now c.args.geometry.now c.args.start c.loop-set.set _ _ c.judge_set.ensures.keeps
-      c.loop-set.invariant.right
-      c.in_ok-judge_set.ensures.right;
-  few = few_sets c.args.graph.now c.args.geometry.now c.loop-set.set c.loop-set.invariant.few
-      c.in_ok-judge_set.ensures.few;
-}
+-- what holds of the runs
+laws_of : (c : In_ok-blocks) → Laws c.in_ok-blocks.blocks c.args.start
+laws_of c =
+    let r = c.in_ok-blocks.blocks in
+    let are = c.in_ok-blocks.ensures.runs in
+    record {
+      heads = λ p hits inside. c.run_laws.ensures.heads r c.args.start p hits are inside;
+      paths = λ p hits members whole inside expanded to.
+          let (earlier, whole_is) = c.run_laws.ensures.ends r p to.earlier whole are
+          (subst (λ (xs : List ℕ). IsExpanded r xs whole) to.ends expanded) in
+          let can = (c.run_laws.ensures.paths r c.args.start members whole hits are expanded).0
+          (subst (λ (xs : List ℕ). PathCanEnd r.small r.shape c.args.start xs hits) (sym to.ends) to.fate) in
+          record {
+            earlier = earlier;
+            ends = whole_is;
+            is_path = subst (λ (xs : List ℕ). IsPath (graph_step r.nodes) 0 xs) whole_is
+                (c.run_laws.ensures.whole r members whole are expanded);
+            fate = subst (λ (xs : List ℕ). PathCanEnd r.nodes r.shape c.args.start xs hits) whole_is can;
+          };
+      inner = λ n inside other. c.run_laws.ensures.inner r c.args.start n are inside other;
+      numbers = λ n inside. c.run_laws.ensures.numbers r n are inside;
+      inside = λ p inside. c.run_laws.ensures.inside r p are inside;
+      own = λ p inside. c.run_laws.ensures.own r p are inside;
+      as_many = c.run_laws.ensures.as_many r are;
+      addresses = λ p inside. c.run_laws.ensures.addresses r p are inside;
+      blocks = λ set blocks. c.run_laws.ensures.blocks r set blocks are;
+    }
+
+-- each node fetches one of the sets
+sets_below : (c : In_ok-blocks) (p : ℕ)
+    → set_at c.in_ok-blocks.blocks.small c.in_ok-blocks.blocks.shape p < c.args.geometry.now.sets
+sets_below c p =
+    let g = c.args.geometry.now in
+    let small = c.in_ok-blocks.blocks.small in
+    subst (λ (h : Geometry). set_at small h p < g.sets) (sym c.in_ok-blocks.ensures.shape)
+    (let below : set_at small g p < g.sets = omega (arith, c.sets-sets.ensures.least, c.sets-sets.ensures.value) in below)
+
+-- what is noted, where the shape of the cache is that of the runs
+noted_by : (c : In_ok-blocks) (found : List NodeVerdict)
+    → IsAllNoted c.in_ok-blocks.blocks c.args.geometry.now c.args.start c.args.kept c.args.geometry.now.sets found
+    → IsAllNoted c.in_ok-blocks.blocks c.in_ok-blocks.blocks.shape c.args.start c.args.kept c.args.geometry.now.sets
+    found
+noted_by c found noted =
+    subst (λ (h : Geometry). IsAllNoted c.in_ok-blocks.blocks h c.args.start c.args.kept c.args.geometry.now.sets found)
+    (sym c.in_ok-blocks.ensures.shape) noted
 
 pub returns-clause-right : goal.returns-clause-right
-returns-clause-right c n inside =
-    let nodes = c.args.graph.now in
+returns-clause-right c =
+    let known = (goal.at.returns-clause-right c).In_ok-blocks in
+    let r = c.in_ok-blocks.blocks in
     let g = c.args.geometry.now in
-    let least = c.sets-set-end.ensures.least in
-    let value = c.sets-set-end.ensures.value in
-    let end = c.loop-set-test.false in
-    let below : set_at nodes g n < c.loop-set.set = omega (arith, least, value, end) in
-    c.loop-set.invariant.right (set_at nodes g n) below n inside refl
+    ok_as _ _ c.judge_parts.result
+    (λ (found : Vec NodeVerdict Global) all.
+    let noted = noted_by known found.items all in
+    right_whole r c.args.start (laws_of known) c.args.kept g.sets noted.judged found.items
+    (sets_below known) noted.are noted.noted c.args.graph.now g c.in_ok-blocks.ensures.nodes
+    c.in_ok-blocks.ensures.shape)
+    c.judge_parts.ensures.noted
+
+pub returns-clause-ways : goal.returns-clause-ways
+returns-clause-ways c =
+    let known = (goal.at.returns-clause-ways c).In_ok-blocks in
+    let r = c.in_ok-blocks.blocks in
+    ok_as _ _ c.judge_parts.result
+    (λ (found : Vec NodeVerdict Global) all.
+    let noted = noted_by known found.items all in
+    ways_whole r c.args.start (laws_of known) c.args.kept c.args.geometry.now.sets noted.judged found.items
+    (sets_below known) noted.are noted.noted c.args.graph.now c.in_ok-blocks.ensures.nodes)
+    c.judge_parts.ensures.noted
+
+pub returns-clause-few : goal.returns-clause-few
+returns-clause-few c =
+    let known = (goal.at.returns-clause-few c).In_ok-blocks in
+    let r = c.in_ok-blocks.blocks in
+    let g = c.args.geometry.now in
+    ok_as _ _ c.judge_parts.result
+    (λ (found : Vec NodeVerdict Global) few.
+    few_all r c.args.start (laws_of known) c.args.graph.now g c.in_ok-blocks.ensures.nodes
+    c.in_ok-blocks.ensures.shape
+    (subst (λ (h : Geometry). AreFew r.small h 0 g.sets) (sym c.in_ok-blocks.ensures.shape) few))
+    c.judge_parts.ensures.few
+
+pub returns-clause-fault : goal.returns-clause-fault
+returns-clause-fault c =
+    let known = (goal.at.returns-clause-fault c).In_ok-blocks in
+    let r = c.in_ok-blocks.blocks in
+    let g = c.args.geometry.now in
+    err_also _ _ c.judge_parts.result
+    (λ fault many.
+    fault_all r c.args.start (laws_of known) c.args.graph.now g fault c.in_ok-blocks.ensures.nodes
+    c.in_ok-blocks.ensures.shape
+    (subst (λ (h : Geometry). IsFaultWithin r.small h 0 g.sets fault) (sym c.in_ok-blocks.ensures.shape) many))
+    c.judge_parts.ensures.fault

@@ -1,10 +1,7 @@
-use Rattle.std.proofs.Common.{IsTrue, arith}
+use Rattle.std.proofs.Common.{arith}
 use Rattle.std.proofs.lemmas.Result.{IfOk-weaker}
-use Rattle.path_model.specs.Graph.{graph_step}
 use Rattle.path_trail.specs.Ways.{IsWayOf}
-use Rattle.report_spec.specs.Valid.{is_valid_way}
 use Rattle.node_spec.specs.Plan.{NamesPathTo}
-use Rattle.node_spec.proofs.Ways.{way_valid}
 use Rattle.report_plan.specs.Befores.{entries_of}
 use Rattle.report_plan.proofs.Back.{length-entries, IsTrail-entries, way-names}
 use Rattle.report_plan.proofs.before.way_to.Goals as goal
@@ -16,13 +13,8 @@ pub way_of-requires-clause-inside : goal.way_of-requires-clause-inside
 way_of-requires-clause-inside c =
     omega (arith, c.requires.inside, c.requires.before.one_each, length-entries c.args.before.now)
 
-pub returns-clause-names : goal.returns-clause-names
-returns-clause-names c =
+pub returns : goal.returns
+returns c =
     IfOk-weaker c.way_of.result (IsWayOf c.args.graph.now (entries_of c.args.before.now) c.args.node)
     (NamesPathTo c.args.graph.now c.args.node)
     (λ way is. way-names _ _ _ way (omega (arith, c.requires.inside, c.requires.before.one_each)) is) c.way_of.ensures
-
-pub returns-clause-valid : goal.returns-clause-valid
-returns-clause-valid c =
-    IfOk-weaker c.way_of.result (NamesPathTo c.args.graph.now c.args.node) (λ way. IsTrue (is_valid_way way))
-    (λ way is. way_valid (graph_step c.args.graph.now) c.args.node is.0 way is.2) (returns-clause-names c)

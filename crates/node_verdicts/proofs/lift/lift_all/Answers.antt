@@ -1,0 +1,26 @@
+use Rattle.std.proofs.Common.{ℕ, ◌++◌, ◌-◌, [], List, take, sym, ap, ◌∙◌, subst}
+use Rattle.std.proofs.lemmas.List.Elements.{Contains-push}
+use Rattle.std.specs.List.{Contains}
+use Rattle.node_verdicts.specs.declared.judged.Judged.{Judged}
+use Rattle.node_verdicts.proofs.Lifted.{lifting_more, lifting_all}
+use Rattle.node_verdicts.proofs.lift.lift_all.Goals as goal
+
+pub lift-requires : goal.lift-requires
+lift-requires c =
+    c.requires c.in-Some.one (c.loop-one.invariant.within c.in-Some.one
+    (subst (λ (xs : List Judged). Contains xs c.in-Some.one) (sym c.in-Some.ensures.items)
+    (Contains-push c.pop.new.self.items c.in-Some.one)))
+
+pub loop-one-preserved : goal.loop-one-preserved
+loop-one-preserved c =
+    lifting_more c.args.sparse.now c.args.judged.items c.loop-one.left.items c.pop.new.self.items
+    c.loop-one.lifted.items c.push.new.self.items c.in-Some.one c.in_ok-lift.field-0 c.in-Some.ensures.items
+    c.in_ok-push.ensures.items c.in_ok-lift.ensures c.loop-one.invariant
+
+pub returns : goal.returns
+returns c =
+    let left = c.loop-one.left.items in
+    lifting_all c.args.sparse.now c.args.judged.items left c.loop-one.lifted.items
+    (c.in_default.ensures.items ∙ ap (λ (xs : List Judged). xs ++ []) (c.in_default.ensures.rest
+    ∙ ap (λ (n : ℕ). take (n - 1) left) c.in_default.ensures.cases.0))
+    c.loop-one.invariant

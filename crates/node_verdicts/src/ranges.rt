@@ -1,0 +1,139 @@
+// What the nodes do that fetch some sets: on smaller and smaller graphs, for fewer and fewer of the sets.
+ghost use Rattle.std.specs.Prelude.{◌≡◌, ◌+◌, ◌-◌, ◌<◌, ◌≤◌, ℕ, length, IfOk, IfErr, IfSome, IfNone};
+ghost use Rattle.path_model.specs.Graph.{address_of};
+ghost use Rattle.node_verdicts.specs.Judged.{AreJudged, IsFetcher};
+ghost use Rattle.node_verdicts.specs.Ranges.{IsSpan, AreFew, IsFaultWithin, widened};
+
+use crate::judged::Judged;
+use crate::lift::lift_all;
+use crate::one_set::judge_set;
+use cache_geom::Geometry;
+use node_spec::Kept;
+use path_model::{Graph, Node, Start};
+use set_view::ViewFault;
+use sparse_graph::{sparse_for, sparse_laws};
+use std::alloc::Global;
+
+/// The number of parts into which the sets of a graph are divided, each with a smaller graph. More parts make more graphs out of one,
+/// fewer parts a longer way back to the whole graph.
+const PARTS: u32 = 16;
+
+/// Sets, from the first of them to the last.
+#[derive(Clone, Copy)]
+pub(crate) struct Span {
+    pub first: u32,
+    pub last: u32,
+}
+
+/// What the paths can do that end in each node which fetches one of these sets: `low` and those above it, below `high`.
+///
+/// It goes on from a sparse graph for these sets with one part of them after another, down to single sets. An error has
+/// the first set with too many fetched blocks.
+#[cycle(ranges)]
+pub(crate) fn judge_sets(
+    alloc: Global,
+    graph: &Graph,
+    geometry: &Geometry,
+    start: Start,
+    kept: Kept,
+    low: u32,
+    high: u32,
+) -> Result<Vec<Judged>, ViewFault>
+    requires { high ≤ geometry.now.sets }
+    ensures judged { IfOk result (λ judged.
+        AreJudged graph.now geometry.now start kept (IsFetcher graph.now geometry.now low high) judged.items) }
+    ensures few { IfOk result (λ judged. AreFew graph.now geometry.now low high) }
+    ensures fault { IfErr result (λ fault. IsFaultWithin graph.now geometry.now low high fault) }
+{
+    sparse_laws();
+    let Some(span) = fetched_within(graph.nodes(), geometry, low, high) else {
+        return Ok(Vec::new(alloc));
+    };
+    match sparse_for(alloc, graph, geometry, span.first, span.last + 1)? {
+        Some(sparse) => {
+            let judged = judge_span(alloc, sparse.graph(), geometry, start, kept, span)?;
+            let lifted = lift_all(alloc, &sparse, judged)?;
+            Ok(lifted)
+        }
+        None => judge_span(alloc, graph, geometry, start, kept, span),
+    }
+}
+
+// The same of each node that fetches one of the sets of a span: one set, or part after part of them.
+#[cycle(ranges)]
+fn judge_span(
+    alloc: Global,
+    graph: &Graph,
+    geometry: &Geometry,
+    start: Start,
+    kept: Kept,
+    span: Span,
+) -> Result<Vec<Judged>, ViewFault>
+    requires some { span.first ≤ span.last }
+    requires inside { span.last < geometry.now.sets }
+    ensures judged { IfOk result (λ judged. AreJudged graph.now geometry.now start kept
+        (IsFetcher graph.now geometry.now span.first (span.last + 1)) judged.items) }
+    ensures few { IfOk result (λ judged. AreFew graph.now geometry.now span.first (span.last + 1)) }
+    ensures fault { IfErr result (λ fault. IsFaultWithin graph.now geometry.now span.first (span.last + 1) fault) }
+{
+    let Span { first, last } = span;
+    if first == last {
+        return judge_set(alloc, graph, geometry, start, kept, first);
+    }
+    // The sets of a cache have numbers of 32 bits, and so has the one after the last of these.
+    let sets = geometry.sets();
+    prove!(last < sets);
+    let mut judged = Vec::new(alloc);
+    let mut low = first;
+    while low <= last {
+        let high = part_end(low, first, last);
+        let mut part = judge_sets(alloc, graph, geometry, start, kept, low, high)?;
+        judged.append(&mut part)?;
+        low = high;
+    }
+    Ok(judged)
+}
+
+/// The end of the part of these sets that begins at `low`: a sixteenth of them, or what is left.
+pub(crate) fn part_end(low: u32, first: u32, last: u32) -> u32
+    requires first { first ≤ last }
+    requires low { low ≤ last }
+    requires last { last < 4294967295 }
+    ensures more { low < result }
+    ensures fits { result ≤ last + 1 }
+    ensures smaller { first < last → result - low < last + 1 - first }
+{
+    let size = (last - first) / PARTS + 1;
+    low + size.min(last + 1 - low)
+}
+
+// The span of the fetched sets among these: `low` and those above it, below `high`. It goes over the nodes once.
+fn fetched_within(nodes: &[Node], geometry: &Geometry, low: u32, high: u32) -> Option<Span>
+    ensures some { IfSome result (IsSpan nodes.now geometry.now low high) }
+    ensures none { IfNone result ((n : ℕ) → IsFetcher nodes.now geometry.now low high n → ⊥) }
+{
+    let mut span = None;
+    for node in nodes {
+        let set = geometry.set_of(geometry.block(node.at));
+        if low <= set && set < high {
+            span = Some(widened(span, set));
+        }
+    }
+    span
+}
+
+// The span with one more set.
+fn widened(span: Option<Span>, set: u32) -> Span
+    ensures { result ≡ widened span set }
+{
+    match span {
+        Some(Span { first, last }) => Span {
+            first: first.min(set),
+            last: last.max(set),
+        },
+        None => Span {
+            first: set,
+            last: set,
+        },
+    }
+}
