@@ -1,0 +1,5 @@
+pub mod Place
+pub mod Ages
+pub mod Exists
+pub mod Settled
+pub mod Sound
