@@ -4,3 +4,8 @@ pub mod Lists
 pub mod Monotone
 pub mod Kept
 pub mod Bounded
+pub mod Reaching
+pub mod Rising
+pub mod Existing
+pub mod Unique
+pub mod Again

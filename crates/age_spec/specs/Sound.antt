@@ -1,5 +1,5 @@
 -- What ages say of the places of blocks on paths.
-use Rattle.std.specs.Prelude.{ℕ, ◌<◌, Bool, List, ◌∷◌, length, map}
+use Rattle.std.specs.Prelude.{◌≡◌, ℕ, ◌<◌, Bool, List, ◌∷◌, length, map}
 use Rattle.cache_spec.specs.declared.start.Start.{Start}
 use Rattle.cache_spec.specs.Contents.{contents}
 use Rattle.cache_spec.specs.Start.{IsStartList, CanEnd}
@@ -30,3 +30,10 @@ BoundPlaces view kind start ages = (n local : ℕ) (held earlier : List ℕ) →
 abbrev pub NoneEnds : View → Start → ℕ → Bool → Type 0
 NoneEnds view start n hits = (earlier : List ℕ) → IsPath (graph_step view.nodes) 0 (n ∷ earlier)
     → CanEnd view.geometry start (map (address_of view.nodes) (n ∷ earlier)) hits → ⊥
+
+-- the members, the last of them first, are a path that ends in the node and can hit there, or miss where `hits` is false
+pub record IsWitness (view : View) (start : Start) (n : ℕ) (hits : Bool) (members : List ℕ) : Type 0 where
+  pub earlier : List ℕ
+  pub ends : members ≡ n ∷ earlier
+  pub is_path : IsPath (graph_step view.nodes) 0 (n ∷ earlier)
+  pub fate : CanEnd view.geometry start (map (address_of view.nodes) (n ∷ earlier)) hits
