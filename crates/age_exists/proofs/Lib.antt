@@ -1,0 +1,10 @@
+pub mod Taken
+pub mod Walked
+pub mod Led
+pub mod Chained
+pub mod Own
+pub mod Attained
+pub mod Attests
+pub mod Columned
+pub mod Marking
+pub mod Unsettled
