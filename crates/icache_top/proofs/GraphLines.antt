@@ -42,7 +42,7 @@ numbered_is [] n below = absurd (omega arith)
 numbered_is (c ∷ configurations) zero below = refl
 numbered_is (c ∷ configurations) (suc n) below = numbered_is configurations n (omega arith)
 
-below_test : (n count : ℕ) → nat_lt n count ≡ true → n < count
+pub below_test : (n count : ℕ) → nat_lt n count ≡ true → n < count
 below_test n count is = grind (arith, nat_tests)
 
 edges_are : (count : ℕ) (first second : Option ℕ) → are_fit count first second ≡ true → AreEdges count first second

@@ -6,3 +6,5 @@ pub mod SendsFor
 pub mod Complete
 pub mod Reported
 pub mod OneAnswer
+pub mod Recorded
+pub mod OneJobs

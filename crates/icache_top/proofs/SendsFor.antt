@@ -18,14 +18,14 @@ use Rattle.top_words.specs.declared.status.Status.TheVariants.{Done, Usage, OutO
 use Rattle.top_words.specs.Status.{of_elf, of_flow, of_sink}
 use Rattle.icache_top.specs.Answer.{SendsFor, Tells, SaysOfProgram, program_for, program_of, entry_of, settled_as, status_of}
 
-status_is : (r : Result (Unit {0}) Status) (status : Status) → IsErrAnd r (λ s. s ≡ status) → status_of r ≡ status
+status_is : {V : Type 0} (r : Result V Status) (status : Status) → IsErrAnd r (λ s. s ≡ status) → status_of r ≡ status
 status_is (Ok done) status h = absurd h
 status_is (Err s) status h = h
 
 -- a prefix of a wanted text was sent, and this fault ended it
-pub sent_reported : (Refused : FlowFault → Type 0) (HasMany : ℕ → ℕ → Type 0) (IsWanted : List ℕ → Type 0)
+pub sent_reported : {V : Type 0} (Refused : FlowFault → Type 0) (HasMany : ℕ → ℕ → Type 0) (IsWanted : List ℕ → Type 0)
     (old new : Option (List ℕ)) (text : List ℕ)
-    → (fault : SinkFault) (r : Result (Unit {0}) Status) → IsWanted text → SendsPrefix old new text
+    → (fault : SinkFault) (r : Result V Status) → IsWanted text → SendsPrefix old new text
     → IsErrAnd r (λ s. s ≡ of_sink fault)
     → SendsFor Refused HasMany IsWanted (status_of r) old new
 sent_reported Refused HasMany IsWanted old new text sinks.Failed r wanted part gives =
@@ -55,7 +55,7 @@ module _ (Refused : FlowFault → Type 0) (HasMany : ℕ → ℕ → Type 0) (Is
     fault_reported (flow.Recursion at) refuses = (refused_of Refused _ (λ e. cc) refuses, Keeps-refl s)
     fault_reported (flow.TooManyFetches limit) refuses = (refused_of Refused _ (λ e. cc) refuses, Keeps-refl s)
 
-    pub flow_reported : (fault : FlowFault) (r : Result (Unit {0}) Status) → (fault ≡ flow.OutOfMemory) ⊎ Refused fault
+    pub flow_reported : {V : Type 0} (fault : FlowFault) (r : Result V Status) → (fault ≡ flow.OutOfMemory) ⊎ Refused fault
         → IsErrAnd r (λ s. s ≡ of_flow fault) → SendsFor Refused HasMany IsWanted (status_of r) s s
     flow_reported fault r refuses gives =
         let P : Status → Type 0 = λ status. SendsFor Refused HasMany IsWanted status s s in
@@ -87,8 +87,8 @@ file_reported settings file s (elf.SegmentWraps index) fails = (fault_of file _ 
 file_reported settings file s (elf.SegmentsOverlap index) fails = (fault_of file _ (λ e. cc) fails, Keeps-refl s)
 file_reported settings file s elf.NoText fails = (fault_of file _ (λ e. cc) fails, Keeps-refl s)
 
-pub elf_reported : (settings : Settings) (file : List ℕ) (s : Option (List ℕ)) (fault : ElfFault)
-    (r : Result (Unit {0}) Status)
+pub elf_reported : {V : Type 0} (settings : Settings) (file : List ℕ) (s : Option (List ℕ)) (fault : ElfFault)
+    (r : Result V Status)
     → (image_of file ≡ Err fault) ⊎ (fault ≡ elf.OutOfMemory) → IsErrAnd r (λ s. s ≡ of_elf fault)
     → Tells settings file (status_of r) s s
 elf_reported settings file s fault r fails gives =
@@ -115,9 +115,9 @@ settled_reported Refused HasMany IsWanted s (Err faults.OutOfMemory) status is m
     subst (λ (status : Status). SendsFor Refused HasMany IsWanted status s s) same (inl (Keeps-refl s))
 
 -- a status that is handed on
-pub handed_on : (Refused : FlowFault → Type 0) (HasMany : ℕ → ℕ → Type 0) (IsWanted : List ℕ → Type 0)
+pub handed_on : {V : Type 0} (Refused : FlowFault → Type 0) (HasMany : ℕ → ℕ → Type 0) (IsWanted : List ℕ → Type 0)
     (s : Option (List ℕ)) (status : Status)
-    → (r : Result (Unit {0}) Status) → IsErrAnd r (λ own. own ≡ status) → SendsFor Refused HasMany IsWanted status s s
+    → (r : Result V Status) → IsErrAnd r (λ own. own ≡ status) → SendsFor Refused HasMany IsWanted status s s
     → SendsFor Refused HasMany IsWanted (status_of r) s s
 handed_on Refused HasMany IsWanted s status r gives reported =
     subst (λ (own : Status). SendsFor Refused HasMany IsWanted own s s) (sym (status_is r status gives)) reported

@@ -173,14 +173,15 @@ abbrev pub AreSameFor : Ask → List ℕ → List ℕ → Type 0
 AreSameFor (Report ask) text other = AreAlikeTexts text other
 AreSameFor (Graph ask) text other = text ≡ other
 
--- the verdicts of nodes or why there are none, as a status
+-- what is settled of the nodes or why nothing is, as a status
 abbrev pub settled_as : {V : Type 0} → Result V ViewFault → Result V Status
-settled_as (Ok verdicts) = Ok verdicts
+settled_as (Ok settled) = Ok settled
 settled_as (Err (faults.TooManyBlocks set count)) = Err (TooManyBlocks set count)
 settled_as (Err faults.OutOfMemory) = Err OutOfMemory
 
-abbrev pub status_of : Result (Unit {0}) Status → Status
-status_of (Ok done) = Done
+-- the status of a run, whatever it gives where it is done
+abbrev pub status_of : {V : Type 0} → Result V Status → Status
+status_of (Ok value) = Done
 status_of (Err status) = status
 
 -- the source's count of faults rose at a read fault, and is as it was else

@@ -1,3 +1,4 @@
 pub mod Lines
 pub mod GraphLines
 pub mod Answer
+pub mod JobRecords

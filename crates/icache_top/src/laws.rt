@@ -3,6 +3,8 @@ ghost use Rattle.std.specs.Prelude.{◌≡◌, ◌≢◌, ℕ, List, Option};
 ghost use Rattle.command_spec.specs.declared.settings.Settings.{Settings};
 ghost use Rattle.top_words.specs.declared.status.Status.{Status};
 ghost use Rattle.icache_top.specs.Answer.{AreSameFor, Decides, IsAnswerOf};
+ghost use Rattle.icache_top.specs.JobRecords.{AreRecordsOf};
+ghost use Rattle.icache_top.specs.declared.outcome.JobRecord.{JobRecord};
 
 /// Where the arguments give settings, the file is known and no port fails, all runs on them end alike, unless memory runs
 /// out: with one status, and at `Done` with texts that differ in the ways of unknown lines alone. How a source cuts its
@@ -13,4 +15,6 @@ pub fn answer_laws()
         → status ≢ Status.OutOfMemory → other ≢ Status.OutOfMemory → status ≡ other }
     ensures text { (settings : Settings) (file text other : List ℕ)
         → IsAnswerOf settings file text → IsAnswerOf settings file other → AreSameFor settings.ask text other }
+    ensures jobs { (settings : Settings) (file : List ℕ) (records others : List JobRecord)
+        → AreRecordsOf settings file records → AreRecordsOf settings file others → records ≡ others }
 {}

@@ -1,6 +1,7 @@
-ghost use Rattle.std.specs.Prelude.{◌≡◌, []};
+ghost use Rattle.std.specs.Prelude.{◌≡◌, [], IfOk};
+ghost use Rattle.icache_top.specs.JobRecords.{record_of, records_of};
 
-use std::alloc::Global;
+use std::alloc::{AllocError, Global};
 use std::marker::Model;
 use top_words::Status;
 
@@ -38,14 +39,16 @@ impl Places {
     }
 }
 
-/// A block that was settled exactly, with its places unless it was settled by lists.
+/// A block with a fetch that the ages leave unclear. A search over all paths settles it.
 #[derive(Debug, Drop)]
 pub struct JobRecord {
+    /// The block's number: an address in it, divided by the size of a line.
     pub block: u32,
+    /// Where it was settled over the node table, which nothing is today.
     pub places: Option<Places>,
 }
 
-/// The blocks that were settled exactly, rising.
+/// The blocks that the ages leave unclear, which a search settles, rising.
 #[derive(Debug, Drop)]
 pub struct Jobs {
     records: Vec<JobRecord>,
@@ -69,10 +72,27 @@ impl Jobs {
         }
     }
 
+    /// A record for each block, without places.
+    pub(crate) fn of_blocks(alloc: Global, blocks: &[u32]) -> Result<Self, AllocError>
+        ensures { IfOk result (λ jobs. jobs ≡ records_of blocks.now) }
+    {
+        let records = blocks.iter().map(|block| record_of(*block)).collect(alloc)?;
+        Ok(Jobs { records })
+    }
+
     pub fn as_slice(&self) -> &[JobRecord]
         ensures { result.now ≡ self.now }
     {
         &self.records
+    }
+}
+
+fn record_of(block: u32) -> JobRecord
+    ensures { result ≡ record_of block }
+{
+    JobRecord {
+        block,
+        places: None,
     }
 }
 
@@ -106,10 +126,12 @@ impl NodeWords {
     }
 }
 
-/// How a run ended, and what it settled on the way.
+/// How a run ended, and what it had to settle by a search.
 #[derive(Debug, Drop)]
 pub struct Outcome {
     pub status: Status,
+    /// Empty today: no run has a node table.
     pub table: NodeWords,
+    /// The jobs of a report that was sent whole, and none at any other end.
     pub jobs: Jobs,
 }

@@ -88,7 +88,7 @@ pub(crate) fn run_on(
     Ok(Ran { outcome, out, err })
 }
 
-/// One row of a table of runs: the geometry, the words, the status, and the one text that is sent.
+/// One row of a table of runs: the geometry, the words, the status, and the one text that is sent. There are no jobs.
 pub(crate) fn check<R: Threads + Sync + Abort>(
     rt: &R,
     alloc: Global,
@@ -97,10 +97,23 @@ pub(crate) fn check<R: Threads + Sync + Abort>(
     status: Status,
     text: &str,
 ) -> Result<(), AllocError> {
+    check_jobs(rt, alloc, line, words, status, text, &[])
+}
+
+/// The same with the jobs.
+pub(crate) fn check_jobs<R: Threads + Sync + Abort>(
+    rt: &R,
+    alloc: Global,
+    line: &str,
+    words: &[u32],
+    status: Status,
+    text: &str,
+    jobs: &[u32],
+) -> Result<(), AllocError> {
     let Ran { outcome, out, err } = run_on(rt, alloc, line, wrap(alloc, words)?)?;
     assert_eq!(rt; outcome.status, status, "{line}");
     assert!(rt; outcome.table.as_slice().is_empty());
-    assert!(rt; outcome.jobs.as_slice().is_empty());
+    assert!(rt; has_jobs(&outcome, jobs), "{line}");
     let (reported, silent) = if status == Status::Done {
         (out, err)
     } else {
@@ -109,6 +122,16 @@ pub(crate) fn check<R: Threads + Sync + Abort>(
     assert_eq!(rt; reported.sent(), text.as_bytes());
     assert!(rt; silent.sent().is_empty());
     Ok(())
+}
+
+/// Whether an outcome's jobs are these blocks, without places.
+pub(crate) fn has_jobs(outcome: &Outcome, blocks: &[u32]) -> bool {
+    let jobs = outcome.jobs.as_slice();
+    jobs.len() == blocks.len()
+        && jobs
+            .iter()
+            .zip(blocks)
+            .all(|(job, block)| job.block == *block && job.places.is_none())
 }
 
 pub(crate) const SMALL: &str = "classify --line 16 --sets 1 --ways 1";

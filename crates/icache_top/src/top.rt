@@ -1,4 +1,4 @@
-ghost use Rattle.std.specs.Prelude.{◌≡◌, ◌≢◌, ◌↔◌, ℕ, ◌<◌, ◌≤◌, List, [], Some, IsNone, IsSome, IfSome, IfErr, length};
+ghost use Rattle.std.specs.Prelude.{◌≡◌, ◌≢◌, ◌↔◌, ℕ, ◌<◌, ◌≤◌, List, [], Some, IsNone, IsSome, IfSome, IfOk, IfErr, length};
 ghost use Rattle.byte_port.specs.Count.{Rose};
 ghost use Rattle.byte_port.specs.Sent.{Reports};
 ghost use Rattle.command_spec.specs.Settings.{settings_of, HasGraphLine};
@@ -7,7 +7,8 @@ ghost use Rattle.top_words.specs.FaultText.{fault_text};
 ghost use Rattle.top_words.specs.Status.{KeepsMemoryApart};
 ghost use Rattle.node_spec.specs.Verdict.{kept_for};
 ghost use Rattle.report_lines.specs.Findings.{IsWithin};
-ghost use Rattle.icache_top.specs.Answer.{Answers, CountsOut, CountsOutRefusals, CountsSource, Decides, ReadsFor, SaysOf, SaysOfProgram, Tells, WritesFor, program_for, settled_as, status_of, file_limit};
+ghost use Rattle.icache_top.specs.Answer.{Answers, CountsOut, CountsOutRefusals, CountsSource, Decides, IsAcceptedWith, ReadsFor, SaysOf, SaysOfProgram, Tells, WritesFor, program_for, settled_as, status_of, file_limit};
+ghost use Rattle.icache_top.specs.JobRecords.{AreReadRecords, AreRecordsFrom, AreRecordsOf, HasRecords, HasRecordsOf};
 
 use crate::graph::send_graph;
 use crate::report::{Findings, send_report};
@@ -16,8 +17,8 @@ use byte_port::{Sink, Source, read_all};
 use call_expand::expand;
 use command_spec::{Ask, GraphAsk, ReportAsk, Settings};
 use elf_image::Image;
-use node_spec::{Kept, NodeVerdict};
-use node_verdicts::{ViewFault, node_verdicts};
+use node_spec::Kept;
+use node_verdicts::{Settled, ViewFault, node_verdicts};
 use std::alloc::Global;
 use std::thread::Threads;
 use top_words::{explain, read_words};
@@ -27,7 +28,7 @@ const FILE_LIMIT: usize = 16777216;
 
 /// All that the program does: reads the arguments, reads the source to its end, and sends the answer to `out`. At every
 /// status but `Done` the fault's text goes to `err`. The arguments lack the program's name.
-#[tactic(auto, using(crate::proofs::Complete::says, crate::proofs::Complete::decides))]
+#[tactic(auto, using(crate::proofs::Complete::says, crate::proofs::Complete::decides, crate::proofs::Recorded::known_records, crate::proofs::Recorded::none_but_done))]
 pub fn run<R: Threads + Sync, S: Source, O: Sink, E: Sink, G: Gate + Sync>(
     rt: &R,
     alloc: Global,
@@ -71,32 +72,43 @@ pub fn run<R: Threads + Sync, S: Source, O: Sink, E: Sink, G: Gate + Sync>(
 
     // Nothing is settled over the table today.
     ensures table { result.table ≡ [] }
-    ensures jobs { result.jobs ≡ [] }
+
+    // The blocks that the ages leave unclear: those of the file that was read, and the same of the bytes that the source
+    // tells at the start.
+    ensures jobs { HasRecords (bytes_of words.now) result.status
+        (S.left source.old) (S.left source.new) result.jobs }
+    ensures known_jobs { IfSome (S.left source.old) (λ file. HasRecordsOf (bytes_of words.now) file result.status
+        result.jobs) }
 {
-    let status = match answer(alloc, words, source, out) {
-        Ok(()) => Status::Done,
+    match answer(alloc, words, source, out) {
+        Ok(jobs) => Outcome {
+            status: Status::Done,
+            table: NodeWords::none(alloc),
+            jobs,
+        },
         Err(status) => {
             explain(err, &status);
-            status
+            Outcome {
+                status,
+                table: NodeWords::none(alloc),
+                jobs: Jobs::none(alloc),
+            }
         }
-    };
-    Outcome {
-        status,
-        table: NodeWords::none(alloc),
-        jobs: Jobs::none(alloc),
     }
 }
 
+/// Sends what the arguments ask for of the file that is read, and gives the jobs.
 fn answer<S: Source, O: Sink>(
     alloc: Global,
     words: &[String],
     source: &mut S,
     out: &mut O,
-) -> Result<(), Status>
+) -> Result<Jobs, Status>
     ensures usage { (result ≡ Err Status.Usage) ↔ IsNone (settings_of (bytes_of words.now)) }
     ensures not_done { IfErr result (λ status. status ≢ Status.Done) }
     ensures answer { Answers (bytes_of words.now) (status_of result)
         (S.left source.old) (S.left source.new) (O.sent out.old) (O.sent out.new) }
+    ensures jobs { IfOk result (AreReadRecords (bytes_of words.now) (S.left source.old) (S.left source.new)) }
     ensures reads { CountsSource (status_of result) (S.faults source.old) (S.faults source.new) }
     ensures writes { CountsOut (status_of result) (O.faults out.old) (O.faults out.new) }
     ensures refusals { CountsOutRefusals (status_of result) (O.refusals out.old) (O.refusals out.new) }
@@ -111,17 +123,18 @@ fn answer<S: Source, O: Sink>(
     answer_file(alloc, file, &settings, out)
 }
 
-/// Sends what the settings ask for of a file.
+/// Sends what the settings ask for of a file, and gives the jobs.
 fn answer_file<O: Sink>(
     alloc: Global,
     file: Vec<u8>,
     settings: &Settings,
     out: &mut O,
-) -> Result<(), Status>
+) -> Result<Jobs, Status>
     requires limit { length file.items ≤ file_limit }
     requires line { HasGraphLine settings.now.ask }
     ensures not_done { IfErr result (λ status. status ≢ Status.Done) }
     ensures reported { Tells settings.now file.items (status_of result) (O.sent out.old) (O.sent out.new) }
+    ensures jobs { IfOk result (AreRecordsOf settings.now file.items) }
     ensures writes { CountsOut (status_of result) (O.faults out.old) (O.faults out.new) }
     ensures refusals { CountsOutRefusals (status_of result) (O.refusals out.old) (O.refusals out.new) }
     ensures writing { WritesFor O.writes (status_of result) out.old out.new }
@@ -135,17 +148,19 @@ fn answer_file<O: Sink>(
     }
 }
 
-/// Sends the report of a program.
+/// Sends the report of a program, and gives its jobs.
 fn classify<O: Sink>(
     alloc: Global,
     out: &mut O,
     image: &Image,
     entry: u32,
     ask: &ReportAsk,
-) -> Result<(), Status>
+) -> Result<Jobs, Status>
     requires { IsWithin ask.now.isa image.now }
     ensures not_done { IfErr result (λ status. status ≢ Status.Done) }
     ensures reported { SaysOfProgram (Ask.Report ask.now) (program_for (Ask.Report ask.now) image.now entry) (status_of result) (O.sent out.old) (O.sent out.new) }
+    ensures jobs { IfOk result (λ jobs. IsAcceptedWith (program_for (Ask.Report ask.now) image.now entry)
+        (λ layers. AreRecordsFrom (Ask.Report ask.now) (program_for (Ask.Report ask.now) image.now entry) layers jobs)) }
     ensures writes { CountsOut (status_of result) (O.faults out.old) (O.faults out.new) }
     ensures refusals { CountsOutRefusals (status_of result) (O.refusals out.old) (O.refusals out.new) }
     ensures writing { WritesFor O.writes (status_of result) out.old out.new }
@@ -153,28 +168,31 @@ fn classify<O: Sink>(
 {
     let expanded = expand(alloc, image, entry, ask.isa, ask.geometry.line())?;
     let kept = kept_for(ask.contexts);
-    let verdicts = settled(node_verdicts(alloc, expanded.graph(), &ask.geometry, ask.start, kept))?;
+    let settled = settled(node_verdicts(alloc, expanded.graph(), &ask.geometry, ask.start, kept))?;
+    let jobs = Jobs::of_blocks(alloc, &settled.jobs)?;
     let found = Findings {
         image,
         isa: ask.isa,
         expanded: &expanded,
-        verdicts: &verdicts,
+        verdicts: &settled.verdicts,
     };
     send_report(alloc, out, &found, ask.contexts)?;
-    Ok(())
+    Ok(jobs)
 }
 
-/// Sends the text of a program's graph.
+/// Sends the text of a program's graph, which has no jobs.
 fn graph<O: Sink>(
     alloc: Global,
     out: &mut O,
     image: &Image,
     entry: u32,
     ask: &GraphAsk,
-) -> Result<(), Status>
+) -> Result<Jobs, Status>
     requires { 0 < ask.now.line }
     ensures not_done { IfErr result (λ status. status ≢ Status.Done) }
     ensures reported { SaysOfProgram (Ask.Graph ask.now) (program_for (Ask.Graph ask.now) image.now entry) (status_of result) (O.sent out.old) (O.sent out.new) }
+    ensures jobs { IfOk result (λ jobs. IsAcceptedWith (program_for (Ask.Graph ask.now) image.now entry)
+        (λ layers. AreRecordsFrom (Ask.Graph ask.now) (program_for (Ask.Graph ask.now) image.now entry) layers jobs)) }
     ensures writes { CountsOut (status_of result) (O.faults out.old) (O.faults out.new) }
     ensures refusals { CountsOutRefusals (status_of result) (O.refusals out.old) (O.refusals out.new) }
     ensures writing { WritesFor O.writes (status_of result) out.old out.new }
@@ -182,7 +200,7 @@ fn graph<O: Sink>(
 {
     let expanded = expand(alloc, image, entry, ask.isa, ask.line)?;
     send_graph(alloc, out, &expanded)?;
-    Ok(())
+    Ok(Jobs::none(alloc))
 }
 
 /// Where the lines of a report need ways.
@@ -196,12 +214,12 @@ fn kept_for(contexts: bool) -> Kept
     }
 }
 
-/// The verdicts that were found, or why there are none, as a status.
-fn settled(found: Result<Vec<NodeVerdict>, ViewFault>) -> Result<Vec<NodeVerdict>, Status>
+/// What is settled of the nodes, or why nothing is, as a status.
+fn settled(found: Result<Settled, ViewFault>) -> Result<Settled, Status>
     ensures { result ≡ settled_as found }
 {
     match found {
-        Ok(verdicts) => Ok(verdicts),
+        Ok(settled) => Ok(settled),
         Err(ViewFault::TooManyBlocks { set, count }) => {
             Err(Status::TooManyBlocks { set, count })
         }

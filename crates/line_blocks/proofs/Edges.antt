@@ -1,5 +1,5 @@
 -- The edges of a graph and those of its runs.
-use Rattle.std.proofs.Common.{◌≡◌, ℕ, zero, suc, ◌<◌, ◌≤◌, ◌⊎◌, inl, inr, ⊎_elim, List, length, map, Option, Some, None, refl, ap, sym, ◌∙◌, subst, arith, IsTrue}
+use Rattle.std.proofs.Common.{◌≡◌, ℕ, zero, suc, ◌<◌, ◌≤◌, ◌⊎◌, inl, inr, ⊎_elim, List, length, map, Option, Some, None, refl, ap, sym, ◌∙◌, subst, arith, IsTrue, unwrap_or}
 use Rattle.std.specs.Prelude.{slice_get}
 use Rattle.std.specs.Option.{option_map}
 use Rattle.std.proofs.lemmas.Bool.{cases_eq}
@@ -13,6 +13,7 @@ use Rattle.path_model.specs.Graph.{IsGraph, graph_step, address, address_of, are
 use Rattle.path_model.proofs.Edges.{node-from_successor, leads-from_successor, successor-from_node, fit_at}
 use Rattle.line_blocks.specs.declared.plan.Run.{Run}
 use Rattle.line_blocks.specs.Runs.{Runs, IsPlan, IsHead, IsHeadIf, IsInner, IsPassed, IsPassedBy, IsLeft, run_of, head_of, last_of, head_in, last_in, second_by, node_by, run_node}
+use Rattle.line_blocks.specs.Expand.{next_in}
 
 -- a node is the first of its run, or it isn't
 pub head_or_not : (numbers : List ℕ) (runs : List Run) (n : ℕ) → IsHead numbers runs n ⊎ (IsHead numbers runs n → ⊥)
@@ -64,6 +65,11 @@ passed_to nodes r n m (Some x) (Some y) passed leads = absurd passed
 head_if : (numbers : List ℕ) (runs : List Run) (o : Option ℕ) (m : ℕ) → IsHeadIf numbers runs o → o ≡ Some m
     → IsHead numbers runs m
 head_if numbers runs o m heads is = subst (IsHeadIf numbers runs) is heads
+
+-- the next node of a run
+pub record IsNextOf (r : Runs) (n m : ℕ) : Type 0 where
+  pub inner : IsInner r.nodes r.shape r.numbers r.runs n m
+  pub edge : IsSuccessor (graph_step r.nodes) n m
 
 -- runs by a plan, and their nodes
 pub record AreMade (r : Runs) : Type 0 where
@@ -210,3 +216,35 @@ module _ (r : Runs) (are : AreMade r) where
       let head : head_of r.runs (run_of r.numbers up.0) ≡ up.0 = left_edge p up.0 inside to in
       subst (λ (m : ℕ). IsSuccessor (graph_step r.nodes) (last_of r.runs p) m)
       (sym head ∙ ap (head_of r.runs) up.2) to
+
+  -- the node that a node goes on to is in its run
+  passed_next : (n : ℕ) (first second : Option ℕ) → IsPassedBy r.nodes r.shape r.numbers r.runs n first second
+      → IsInner r.nodes r.shape r.numbers r.runs n (unwrap_or first 0)
+  passed_next n None second passed = absurd passed
+  passed_next n (Some m) None passed = passed
+  passed_next n (Some m) (Some other) passed = absurd passed
+
+  -- it is the first successor
+  passed_first : (n : ℕ) (first second : Option ℕ) → IsPassedBy r.nodes r.shape r.numbers r.runs n first second
+      → first ≡ Some (unwrap_or first 0)
+  passed_first n None second passed = absurd passed
+  passed_first n (Some m) second passed = refl
+
+  -- so it is the next one
+  next_from : (n : ℕ) (o : Option Node) → slice_get r.nodes n ≡ o → IsPassed r.nodes r.shape r.numbers r.runs n o
+      → IsNextOf r n (next_in o)
+  next_from n None found passed = absurd passed
+  next_from n (Some node) found passed = record {
+    inner = passed_next n node.first node.second passed;
+    edge = successor-from_node r.nodes n (unwrap_or node.first 0) node found
+        (inl (passed_first n node.first node.second passed));
+  }
+
+  -- a node that isn't the last of its run has a next one
+  pub next_of : (n : ℕ) → n < length r.nodes → (last_of r.runs (run_of r.numbers n) ≡ n → ⊥)
+      → IsNextOf r n (next_in (slice_get r.nodes n))
+  next_of n inside other = ⊎_elim
+      (λ (last : last_of r.runs (run_of r.numbers n) ≡ n). absurd (other last))
+      (λ (passed : IsPassed r.nodes r.shape r.numbers r.runs n (slice_get r.nodes n)).
+      next_from n (slice_get r.nodes n) refl passed)
+      (are.plan.1 n inside).1

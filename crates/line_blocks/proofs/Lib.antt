@@ -6,3 +6,7 @@ pub mod Single
 pub mod Trips
 pub mod Blocks
 pub mod Expanded
+pub mod Counted
+pub mod Named
+pub mod Data
+pub mod Solutions

@@ -1,17 +1,15 @@
 -- The steps by which a path of the whole graph is made.
-use Rattle.std.proofs.Common.{◌≡◌, ℕ, ◌+◌, ◌-◌, ◌<◌, ◌≤◌, inl, ⊎_elim, List, [], ◌∷◌, ◌++◌, length, take, drop, reverse, get_or, Option, Some, None, refl, ap, sym, ◌∙◌, subst, arith}
-use Rattle.std.specs.Prelude.{slice_get, unwrap_or}
+use Rattle.std.proofs.Common.{◌≡◌, ℕ, ◌+◌, ◌-◌, ◌<◌, ◌≤◌, List, [], ◌∷◌, ◌++◌, length, take, drop, reverse, get_or, refl, ap, sym, ◌∙◌, subst, arith}
+use Rattle.std.specs.Prelude.{slice_get}
 use Rattle.std.proofs.lemmas.List.{length-map}
 use Rattle.transition_spec.specs.Path.{IsPath, IsSuccessor}
-use Rattle.path_model.specs.declared.graph.Node.{Node}
 use Rattle.path_model.specs.Graph.{graph_step}
-use Rattle.path_model.proofs.Edges.{successor-from_node}
 use Rattle.path_model.proofs.Reached.{successor_inside}
 use Rattle.path_model.proofs.Moves.{IsPath-suffix}
 use Rattle.path_model.proofs.Turned.{reverse-more, reverse-split}
-use Rattle.line_blocks.specs.Runs.{Runs, AreRuns, IsInner, IsPassed, IsPassedBy, run_node, run_of, head_of, last_of}
+use Rattle.line_blocks.specs.Runs.{Runs, AreRuns, run_node, run_of, head_of, last_of}
 use Rattle.line_blocks.specs.Expand.{IsDown, IsUp, IsWalk, IsExpanded, next_in}
-use Rattle.line_blocks.proofs.Edges.{small_inside, edge_back, some_run, head_is}
+use Rattle.line_blocks.proofs.Edges.{IsNextOf, next_of, small_inside, edge_back, some_run, head_is}
 use Rattle.line_blocks.proofs.Walks.{base, down_first, down_head, down_inner}
 
 -- a path goes on within a run
@@ -28,41 +26,7 @@ pub record IsTrip (r : Runs) (path whole : List ℕ) : Type 0 where
   pub inside : last < length r.runs
   pub walk : IsWalk r (head_of r.runs last) whole others
 
--- the next node of a run
-pub record IsNextOf (r : Runs) (n m : ℕ) : Type 0 where
-  pub inner : IsInner r.nodes r.shape r.numbers r.runs n m
-  pub edge : IsSuccessor (graph_step r.nodes) n m
-
 module _ (r : Runs) (are : AreRuns r) where
-  passed_next : (n : ℕ) (first second : Option ℕ) → IsPassedBy r.nodes r.shape r.numbers r.runs n first second
-      → IsInner r.nodes r.shape r.numbers r.runs n (unwrap_or first 0)
-  passed_next n None second passed = absurd passed
-  passed_next n (Some m) None passed = passed
-  passed_next n (Some m) (Some other) passed = absurd passed
-
-  passed_edge : (n : ℕ) (first second : Option ℕ) → IsPassedBy r.nodes r.shape r.numbers r.runs n first second
-      → first ≡ Some (unwrap_or first 0)
-  passed_edge n None second passed = absurd passed
-  passed_edge n (Some m) second passed = refl
-
-  next_from : (n : ℕ) (o : Option Node) → slice_get r.nodes n ≡ o → IsPassed r.nodes r.shape r.numbers r.runs n o
-      → IsNextOf r n (next_in o)
-  next_from n None found passed = absurd passed
-  next_from n (Some node) found passed = record {
-    inner = passed_next n node.first node.second passed;
-    edge = successor-from_node r.nodes n (unwrap_or node.first 0) node found
-        (inl (passed_edge n node.first node.second passed));
-  }
-
-  -- a node that isn't the last of its run has a next one
-  next_of : (n : ℕ) → n < length r.nodes → (last_of r.runs (run_of r.numbers n) ≡ n → ⊥)
-      → IsNextOf r n (next_in (slice_get r.nodes n))
-  next_of n inside other = ⊎_elim
-      (λ (last : last_of r.runs (run_of r.numbers n) ≡ n). absurd (other last))
-      (λ (passed : IsPassed r.nodes r.shape r.numbers r.runs n (slice_get r.nodes n)).
-      next_from n (slice_get r.nodes n) refl passed)
-      (are.plan.1 n inside).1
-
   walk_next : (n m : ℕ) (members other : List ℕ) → IsNextOf r n m → IsWalk r n members other
       → IsWalk r m (m ∷ members) other
   walk_next n m members other next walk = (
@@ -79,7 +43,7 @@ module _ (r : Runs) (are : AreRuns r) where
       → IsOnWay r run initial at members
       → IsOnWay r run initial (next_in (slice_get r.nodes at)) (next_in (slice_get r.nodes at) ∷ members)
   way_next run initial at members other way =
-      let next = next_of at way.inside (λ is. other (sym is ∙ ap (last_of r.runs) way.own)) in
+      let next = next_of r (base r are) at way.inside (λ is. other (sym is ∙ ap (last_of r.runs) way.own)) in
       let m : ℕ = next_in (slice_get r.nodes at) in
       record {
         own = next.inner.1 ∙ way.own;

@@ -1,5 +1,5 @@
 // What holds of runs.
-ghost use Rattle.std.specs.Prelude.{◌≡◌, ◌<◌, ◌↔◌, ℕ, Bool, true, List, ◌∷◌, length};
+ghost use Rattle.std.specs.Prelude.{◌≡◌, ◌<◌, ◌↔◌, ℕ, Bool, true, List, ◌∷◌, length, Some, slice_get};
 ghost use Rattle.transition_spec.specs.Path.{IsPath};
 ghost use Rattle.cache_spec.specs.declared.start.Start.{Start};
 ghost use Rattle.cache_spec.specs.Geometry.{block_of};
@@ -8,6 +8,10 @@ ghost use Rattle.path_model.specs.Graph.{graph_step, address_of, addresses_of};
 ghost use Rattle.focus_spec.specs.Fate.{AllEnd, PathCanEnd};
 ghost use Rattle.line_blocks.specs.Runs.{Runs, AreRuns, IsHead, run_of, head_of, SomeEnds};
 ghost use Rattle.line_blocks.specs.Expand.{IsExpanded, EndsIn};
+ghost use Rattle.line_blocks.specs.Alike.{MoveAlike, head_data};
+ghost use Rattle.lattice_fix.specs.Solution.{IsLeast};
+
+use lattice_fix::Domain;
 
 /// What holds of the runs of a graph, in each set of the cache and with each start: what paths can do at the first node of
 /// a run, they can do at the run in the graph of the runs, and each other node always hits. Each node is in a run, and the
@@ -40,4 +44,26 @@ pub fn run_laws()
     ensures paths { (r : Runs) (start : Start) (path whole : List ℕ) (hits : Bool) → AreRuns r →
         IsExpanded r path whole →
         PathCanEnd r.small r.shape start path hits ↔ PathCanEnd r.nodes r.shape start whole hits }
+{}
+
+/// What holds of least solutions over both graphs, where each node of a run but the first leaves what that one makes of
+/// data as it is, and the run makes the same: that of the whole graph, at the first nodes of the runs, is the least one of
+/// the graph of the runs; so any two agree at the first nodes of the runs; and each other node of a run has what its first
+/// node makes.
+pub fn least_laws<D: Domain>(whole: &D, small: &D)
+    ensures least { let F = D.framework (D.setting (D.state whole.now)) in
+        let G = D.framework (D.setting (D.state small.now)) in
+        (r : Runs) (before : List D.Data) → AreRuns r → MoveAlike r F G → IsLeast F r.nodes before →
+        IsLeast G r.small (head_data before r.runs) }
+    ensures agree { let F = D.framework (D.setting (D.state whole.now)) in
+        let G = D.framework (D.setting (D.state small.now)) in
+        (r : Runs) (before after : List D.Data) (p : ℕ) → AreRuns r → MoveAlike r F G → IsLeast F r.nodes before →
+        IsLeast G r.small after → p < length r.runs →
+        slice_get after p ≡ slice_get before (head_of r.runs p) }
+    ensures inner { let F = D.framework (D.setting (D.state whole.now)) in
+        let G = D.framework (D.setting (D.state small.now)) in
+        (r : Runs) (before : List D.Data) (m : ℕ) (x y : D.Data) → AreRuns r → MoveAlike r F G →
+        IsLeast F r.nodes before → (IsHead r.numbers r.runs m → ⊥) →
+        slice_get before (head_of r.runs (run_of r.numbers m)) ≡ Some x → slice_get before m ≡ Some y →
+        y ≡ F.transfer (head_of r.runs (run_of r.numbers m)) x }
 {}

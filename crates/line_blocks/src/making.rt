@@ -1,9 +1,11 @@
 // A graph, and that of its runs.
-ghost use Rattle.std.specs.Prelude.{◌≡◌, ◌↔◌, map, Some, IsTrue, IfOk, IfSome, IfNone};
+ghost use Rattle.std.specs.Prelude.{◌≡◌, ◌↔◌, ◌<◌, length, map, Some, IsTrue, IfOk, IfSome, IfNone};
 ghost use Rattle.path_model.specs.Graph.{address_of};
 ghost use Rattle.line_blocks.specs.Runs.{AreRuns, AreRising, IsHead, IsPlan, node_by, run_node, run_of, head_of, last_of, second_by};
+ghost use Rattle.line_blocks.specs.Ways.{HasMoves};
 
 use crate::drafting::{alone, draft_of};
+use crate::moves::moves_of;
 use crate::plan::{Run, address_of, head_of, is_head, is_plan, last_of, run_of};
 use cache_geom::Geometry;
 use path_model::{Graph, Node};
@@ -18,10 +20,13 @@ pub struct LineBlocks<'g> {
     small: Graph,
     numbers: Vec<u32>,
     runs: Vec<Run>,
+    // The number of moves from the first node of each run to its last one.
+    moves: Vec<u32>,
 }
 
 impl<'g> Model for LineBlocks<'g> {
     ghost use Rattle.line_blocks.specs.Runs.{Runs, AreRuns};
+    ghost use Rattle.line_blocks.specs.Ways.{AreMoves};
 
     ghost Value = { Runs };
 
@@ -39,7 +44,7 @@ impl<'g> Model for LineBlocks<'g> {
       small = b.small;
       numbers = b.numbers.items;
       runs = b.runs.items;
-    }) };
+    }) × AreMoves b.whole.now b.numbers.items b.runs.items b.moves.items };
 }
 
 impl<'g> LineBlocks<'g> {
@@ -98,6 +103,14 @@ impl<'g> LineBlocks<'g> {
     {
         last_of(&self.runs, run as usize)
     }
+
+    // The number of moves from the first node of a run to its last one.
+    pub(crate) fn moves(&self, run: u32) -> u32
+        ensures moves { run < length self.now.runs →
+            HasMoves self.now.nodes self.now.numbers self.now.runs (head_of self.now.runs run) result }
+    {
+        self.moves.get(run as usize).copied().unwrap_or(0)
+    }
 }
 
 // The runs of a graph, where these are a plan for them.
@@ -122,13 +135,17 @@ pub(crate) fn of_plan<'g>(
     }
     let nodes = small_nodes(alloc, whole.nodes(), &numbers, &runs)?;
     match Graph::new(nodes) {
-        Some(small) => Ok(Some(LineBlocks {
-            whole,
-            geometry: *geometry,
-            small,
-            numbers,
-            runs,
-        })),
+        Some(small) => {
+            let moves = moves_of(alloc, whole.nodes(), &numbers, &runs)?;
+            Ok(Some(LineBlocks {
+                whole,
+                geometry: *geometry,
+                small,
+                numbers,
+                runs,
+                moves,
+            }))
+        }
         None => Ok(None),
     }
 }

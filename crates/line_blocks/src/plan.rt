@@ -3,6 +3,8 @@ ghost use Rattle.std.specs.Prelude.{◌≡◌, ◌↔◌, ℕ, ◌<◌, ◌≤�
 ghost use Rattle.cache_spec.specs.Geometry.{block_of};
 ghost use Rattle.path_model.specs.Graph.{address_of};
 ghost use Rattle.line_blocks.specs.Runs.{run_of, head_of, last_of, IsHead, IsHeadIf, IsInner, IsPassedBy, IsPassed, IsLed, IsLeft, IsRun, IsPlan};
+ghost use Rattle.line_blocks.specs.Expand.{next_in};
+ghost use Rattle.line_blocks.specs.Ways.{IsLast};
 
 use cache_geom::Geometry;
 use path_model::Node;
@@ -36,6 +38,23 @@ pub(crate) fn last_of(runs: &[Run], run: usize) -> u32
         Some(run) => run.last,
         None => 0,
     }
+}
+
+// The first successor of a node.
+pub(crate) fn next(nodes: &[Node], node: u32) -> u32
+    ensures { result ≡ next_in (slice_get nodes.now node) }
+{
+    match nodes.get(node as usize) {
+        Some(node) => node.first.unwrap_or(0),
+        None => 0,
+    }
+}
+
+// The node is the last of its run.
+pub(crate) fn is_last(numbers: &[u32], runs: &[Run], node: u32) -> bool
+    ensures { IsTrue result ↔ IsLast numbers.now runs.now node }
+{
+    last_of(runs, run_of(numbers, node) as usize) == node
 }
 
 // The node is the first of its run.

@@ -1,5 +1,5 @@
 use crate::making::{each_alone, of_plan};
-use crate::{LineBlocks, Run, expand_path, line_blocks, run_laws};
+use crate::{LineBlocks, Run, line_blocks, run_laws, way_of};
 use cache_geom::Geometry;
 use path_model::{Graph, Node, follow};
 use std::alloc::{AllocError, Global};
@@ -93,7 +93,7 @@ fn runs_end_where_a_line_does_or_a_loop_begins(rt: HostRuntime) -> Result<(), Fa
 }
 
 #[test]
-fn a_path_of_runs_has_all_their_nodes(rt: HostRuntime) -> Result<(), Fail> {
+fn the_way_of_a_path_of_runs_names_that_of_their_nodes(rt: HostRuntime) -> Result<(), Fail> {
     let alloc = rt.alloc();
     let geometry = Geometry::new(8, 1, 1).expect(&rt, "in range");
     let graph = graph_of(alloc, &LOOP)?.expect(&rt, "a graph");
@@ -105,7 +105,9 @@ fn a_path_of_runs_has_all_their_nodes(rt: HostRuntime) -> Result<(), Fail> {
         (b"tn".as_slice(), 4, [0, 1, 2, 3, 2, 3, 4].as_slice()),
     ] {
         let path = follow(alloc, blocks.small(), choices, steps)?.expect(&rt, "a path");
-        assert_eq!(rt; expand_path(alloc, &blocks, &path)?.as_slice(), members);
+        let way = way_of(alloc, &blocks, &path)?;
+        let whole = follow(alloc, &graph, way.choices.letters(), way.steps)?;
+        assert_eq!(rt; whole.expect(&rt, "a path").as_slice(), members);
     }
     Ok(())
 }

@@ -1,5 +1,5 @@
--- The nodes that fetch a block, judged one after another.
-use Rattle.std.proofs.Common.{◌≡◌, ◌≢◌, ◌⊎◌, ℕ, ◌+◌, ◌<◌, inl, inr, List, [], ◌∷◌, ◌++◌, length, Option, Some, None, refl, sym, ap, subst, ◌∙◌, arith}
+-- Some of the nodes of a view, judged one after another.
+use Rattle.std.proofs.Common.{◌≡◌, ◌⊎◌, ℕ, ◌+◌, ◌<◌, inl, inr, List, [], ◌∷◌, ◌++◌, length, Option, Some, None, refl, sym, ap, subst, ◌∙◌, arith}
 use Rattle.std.proofs.lemmas.Bool.{cases_eq, cases_lt}
 use Rattle.std.proofs.lemmas.List.{get_or_past}
 use Rattle.std.proofs.lemmas.Option.{none-some}
@@ -21,44 +21,43 @@ use Rattle.node_verdicts.specs.Judged.{IsEnds, HasPaths, HavePathsAt, Serves, Ar
 pub none_there : {X : Type 0} (x : X) → Contains [] x → ⊥
 none_there x (k, inside, is) = absurd (omega (arith, inside))
 
--- the nodes below the count that fetch the block are judged; paths are kept at a node of each of the addresses, and
--- spared at no other address
-pub record AreSoFar (view : View) (start : Start) (kept : Kept) (block count : ℕ) (addresses : List ℕ)
+-- the nodes below the count are judged, as far as they are within what is looked at; paths are kept at a node of each of
+-- the addresses, and spared at no other address
+pub record AreSoFar (view : View) (start : Start) (kept : Kept) (Within : ℕ → Type 0) (count : ℕ) (addresses : List ℕ)
     (judged : List Judged) : Type 0 where
   pub below : (one : Judged) → Contains judged one → one.node < count
-  pub fetches : (one : Judged) → Contains judged one → fetch_at view.fetches one.node ≡ Some block
+  pub within : (one : Judged) → Contains judged one → Within one.node
   pub right : (one : Judged) → Contains judged one → IsEnds view.nodes view.geometry start one.node one.ends
-  pub all : (n : ℕ) → n < count → fetch_at view.fetches n ≡ Some block
-      → (one : Judged) × Contains judged one × (one.node ≡ n)
+  pub all : (n : ℕ) → n < count → Within n → (one : Judged) × Contains judged one × (one.node ≡ n)
   pub spared : (one : Judged) → Contains judged one → one.ends ≡ Both None
       → (kept ≡ EachAddress) × Contains addresses (address_of view.nodes one.node)
   pub have : (a : ℕ) → Contains addresses a → (m : ℕ) × (address_of view.nodes m ≡ a) × HavePathsAt judged m
 
 -- at first there are none
-pub so_far_none : (view : View) (start : Start) (kept : Kept) (block : ℕ) (addresses : List ℕ) (judged : List Judged)
-    → addresses ≡ [] → judged ≡ [] → AreSoFar view start kept block 0 addresses judged
-so_far_none view start kept block addresses judged no_addresses none =
-    subst (AreSoFar view start kept block 0 addresses) (sym none)
-    (subst (λ (xs : List ℕ). AreSoFar view start kept block 0 xs []) (sym no_addresses) (record {
+pub so_far_none : (view : View) (start : Start) (kept : Kept) (Within : ℕ → Type 0) (addresses : List ℕ)
+    (judged : List Judged) → addresses ≡ [] → judged ≡ [] → AreSoFar view start kept Within 0 addresses judged
+so_far_none view start kept Within addresses judged no_addresses none =
+    subst (AreSoFar view start kept Within 0 addresses) (sym none)
+    (subst (λ (xs : List ℕ). AreSoFar view start kept Within 0 xs []) (sym no_addresses) (record {
       below = λ one there. absurd (none_there one there);
-      fetches = λ one there. absurd (none_there one there);
+      within = λ one there. absurd (none_there one there);
       right = λ one there. absurd (none_there one there);
-      all = λ n below fetched. absurd (omega (arith, below));
+      all = λ n below is. absurd (omega (arith, below));
       spared = λ one there is. absurd (none_there one there);
       have = λ a there. absurd (none_there a there);
     }))
 
--- one more node that doesn't fetch the block
-pub so_far_passed : (view : View) (start : Start) (kept : Kept) (block count : ℕ) (addresses : List ℕ)
-    (judged : List Judged) → AreSoFar view start kept block count addresses judged
-    → fetch_at view.fetches count ≢ Some block → AreSoFar view start kept block (count + 1) addresses judged
-so_far_passed view start kept block count addresses judged are other = record {
+-- one more node that isn't looked at
+pub so_far_passed : (view : View) (start : Start) (kept : Kept) (Within : ℕ → Type 0) (count : ℕ) (addresses : List ℕ)
+    (judged : List Judged) → AreSoFar view start kept Within count addresses judged
+    → (Within count → ⊥) → AreSoFar view start kept Within (count + 1) addresses judged
+so_far_passed view start kept Within count addresses judged are other = record {
   below = λ one there. omega (arith, are.below one there);
-  fetches = are.fetches;
+  within = are.within;
   right = are.right;
-  all = λ n below fetched. elim (cases_eq count n) [
-    | inl last ↦ absurd (other (ap (fetch_at view.fetches) last ∙ fetched))
-    | inr before ↦ are.all n (omega (arith, below, before)) fetched
+  all = λ n below is. elim (cases_eq count n) [
+    | inl last ↦ absurd (other (subst Within (sym last) is))
+    | inr before ↦ are.all n (omega (arith, below, before)) is
   ];
   spared = are.spared;
   have = are.have;
@@ -115,8 +114,8 @@ have_last judged last has below = record {
   ];
 }
 
-module _ (view : View) (start : Start) (kept : Kept) (block count : ℕ) (addresses : List ℕ) (judged : List Judged)
-    (are : AreSoFar view start kept block count addresses judged) (fetched : fetch_at view.fetches count ≡ Some block)
+module _ (view : View) (start : Start) (kept : Kept) (Within : ℕ → Type 0) (count : ℕ) (addresses : List ℕ)
+    (judged : List Judged) (are : AreSoFar view start kept Within count addresses judged) (is : Within count)
     (ends : Ends) (right : IsEnds view.nodes view.geometry start count ends)
     (spared : ends ≡ Both None → (kept ≡ EachAddress) × Contains addresses (address_of view.nodes count)) where
   -- the node that is added
@@ -154,15 +153,15 @@ module _ (view : View) (start : Start) (kept : Kept) (block count : ℕ) (addres
     | inr (has, is) ↦ (count, is, have_last judged last has are.below)
   ]
 
-  so_far_added : AreSoFar view start kept block (count + 1) (addresses_with ends at addresses) (judged ++ last ∷ [])
+  so_far_added : AreSoFar view start kept Within (count + 1) (addresses_with ends at addresses) (judged ++ last ∷ [])
   so_far_added = record {
     below = λ one there. elim (Contains-push_cases judged last one there) [
       | inl before ↦ omega (arith, are.below one before)
       | inr same ↦ omega (arith, ap (λ (j : Judged). j.node) same)
     ];
-    fetches = λ one there. elim (Contains-push_cases judged last one there) [
-      | inl before ↦ are.fetches one before
-      | inr same ↦ subst (λ (j : Judged). fetch_at view.fetches j.node ≡ Some block) same fetched
+    within = λ one there. elim (Contains-push_cases judged last one there) [
+      | inl before ↦ are.within one before
+      | inr same ↦ subst (λ (j : Judged). Within j.node) same is
     ];
     right = λ one there. elim (Contains-push_cases judged last one there) [
       | inl before ↦ are.right one before
@@ -178,12 +177,12 @@ module _ (view : View) (start : Start) (kept : Kept) (block count : ℕ) (addres
     have = have_with;
   }
 
-  -- one more node that fetches the block
+  -- one more node that is looked at
   pub so_far_more : (more : List Judged) (with_it : List ℕ) → more ≡ judged ++ last ∷ []
-      → with_it ≡ addresses_with ends at addresses → AreSoFar view start kept block (count + 1) with_it more
+      → with_it ≡ addresses_with ends at addresses → AreSoFar view start kept Within (count + 1) with_it more
   so_far_more more with_it more_is with_is =
-      subst (AreSoFar view start kept block (count + 1) with_it) (sym more_is)
-      (subst (λ (xs : List ℕ). AreSoFar view start kept block (count + 1) xs (judged ++ last ∷ [])) (sym with_is)
+      subst (AreSoFar view start kept Within (count + 1) with_it) (sym more_is)
+      (subst (λ (xs : List ℕ). AreSoFar view start kept Within (count + 1) xs (judged ++ last ∷ [])) (sym with_is)
       so_far_added)
 
 -- where paths are spared those of another node at the address serve
@@ -192,14 +191,13 @@ serves_by : (view : View) (kept : Kept) (n m : ℕ) → kept ≡ EachAddress
 serves_by view kept n m is at = subst (λ (k : Kept). Serves view.nodes k n m) (sym is) at
 
 -- all of them
-pub so_far_all : (view : View) (start : Start) (kept : Kept) (block count : ℕ) (addresses : List ℕ)
-    (judged : List Judged) → AreSoFar view start kept block count addresses judged
-    → ((n : ℕ) → fetch_at view.fetches n ≡ Some block → n < count)
-    → AreJudged view.nodes view.geometry start kept (λ n. fetch_at view.fetches n ≡ Some block) judged
-so_far_all view start kept block count addresses judged are below = record {
-  within = are.fetches;
+pub so_far_all : (view : View) (start : Start) (kept : Kept) (Within : ℕ → Type 0) (count : ℕ) (addresses : List ℕ)
+    (judged : List Judged) → AreSoFar view start kept Within count addresses judged
+    → ((n : ℕ) → Within n → n < count) → AreJudged view.nodes view.geometry start kept Within judged
+so_far_all view start kept Within count addresses judged are below = record {
+  within = are.within;
   right = are.right;
-  all = λ n fetched. are.all n (below n fetched) fetched;
+  all = λ n is. are.all n (below n is) is;
   served = λ one there none.
       let (is, among) = are.spared one there none in
       let (m, at, have) = are.have (address_of view.nodes one.node) among in

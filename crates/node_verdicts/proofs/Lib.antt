@@ -1,6 +1,10 @@
 pub mod Counted
 pub mod Block
+pub mod ByAges
+pub mod Shown
 pub mod Joined
+pub mod Looked
+pub mod Jobs
 pub mod Viewed
 pub mod Spans
 pub mod Lifted

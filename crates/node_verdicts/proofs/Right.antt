@@ -25,7 +25,8 @@ use Rattle.node_verdicts.specs.declared.judged.Ends.{Ends}
 use Rattle.node_verdicts.specs.declared.judged.Ends.TheVariants.{Hits, Misses, Both}
 use Rattle.node_verdicts.specs.declared.judged.Judged.{Judged}
 use Rattle.node_verdicts.specs.Judged.{set_at, IsFetcher, IsEnds, HasPaths, HavePathsAt, Serves, AreJudged}
-use Rattle.node_verdicts.specs.Noted.{IsWayFor, IsVerdictFor, IsUntouched, AreNoted}
+use Rattle.line_blocks.specs.Ways.{IsWayFor}
+use Rattle.node_verdicts.specs.Noted.{IsVerdictFor, IsUntouched, AreNoted}
 use Rattle.node_verdicts.specs.Ranges.{AreFew, IsFaultWithin}
 use Rattle.node_verdicts.specs.Verdicts.{AreRight, IsFault}
 use Rattle.node_verdicts.proofs.Block.{none_there}

@@ -1,4 +1,8 @@
 // What is judged of the nodes of a graph.
+ghost use Rattle.std.specs.Prelude.{◌≡◌, ◌++◌, [], OnOk};
+
+use std::alloc::{AllocError, Global};
+
 /// A path that can hit and one that can miss, both with their first member first.
 #[derive(Drop)]
 pub(crate) struct Paths {
@@ -20,4 +24,34 @@ pub(crate) enum Ends {
 pub(crate) struct Judged {
     pub node: u32,
     pub ends: Ends,
+}
+
+/// What is judged of some nodes, and the blocks that they fetch and that the ages leave unclear.
+#[derive(Drop)]
+pub(crate) struct Found {
+    pub judged: Vec<Judged>,
+    pub jobs: Vec<u32>,
+}
+
+impl Found {
+    /// Nothing yet.
+    pub(crate) fn none(alloc: Global) -> Self
+        ensures judged { result.judged.items ≡ [] }
+        ensures jobs { result.jobs.items ≡ [] }
+    {
+        Found {
+            judged: Vec::new(alloc),
+            jobs: Vec::new(alloc),
+        }
+    }
+
+    /// Adds what is found of other nodes.
+    pub(crate) fn append(&mut self, mut other: Found) -> Result<(), AllocError>
+        ensures judged { OnOk result (self.new.judged.items ≡ self.old.judged.items ++ other.judged.items) }
+        ensures jobs { OnOk result (self.new.jobs.items ≡ self.old.jobs.items ++ other.jobs.items) }
+    {
+        self.judged.append(&mut other.judged)?;
+        self.jobs.append(&mut other.jobs)?;
+        Ok(())
+    }
 }

@@ -1,11 +1,14 @@
 //! A verdict for each node of a graph.
 //!
-//! The graph of its runs (`line_blocks`) is made smaller for one half of the cache sets and then for the other
-//! (`sparse_graph`), down to single sets, whose blocks are judged over all paths (`set_view`, `focus_plain`); what was
-//! judged is carried back. The layer above gets a right verdict for each node of the graph itself, and ways where they
-//! are asked for, or the first set with too many blocks.
+//! The graph of its runs (`line_blocks`) is made smaller for one part of the cache sets after another
+//! (`sparse_graph`), down to single sets. There the ages of the set's blocks (`age_must_may`, `age_exists`) settle what
+//! they can, and each block with a fetch that they leave unclear is searched over all paths (`focus_plain`); what was
+//! found is carried back. The layer above gets a right verdict for each node of the graph itself, ways where they are
+//! asked for, and the blocks that were searched (the same as over the graph itself, by `age_graphs`), or the first set
+//! with too many blocks.
 #![tactic(auto)]
 
+mod aged;
 mod judged;
 mod lift;
 mod noting;
@@ -14,6 +17,7 @@ mod ranges;
 #[cfg(test)]
 mod tests;
 mod verdicts;
+mod witnesses;
 
 pub use set_view::ViewFault;
-pub use verdicts::node_verdicts;
+pub use verdicts::{Settled, node_verdicts};

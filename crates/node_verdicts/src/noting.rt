@@ -1,18 +1,14 @@
 // The verdicts of the nodes, by what is judged of the runs.
-ghost use Rattle.std.specs.Prelude.{◌≡◌, ◌<◌, ◌++◌, List, [], length, replicate, reverse, slice_set, IfOk, OnOk};
+ghost use Rattle.std.specs.Prelude.{◌≡◌, ◌<◌, ◌++◌, List, [], length, replicate, slice_set, IfOk, OnOk};
 ghost use Rattle.std.specs.List.{Contains};
-ghost use Rattle.transition_spec.specs.Path.{IsPath};
-ghost use Rattle.path_model.specs.Graph.{graph_step};
 ghost use Rattle.node_spec.specs.declared.verdict.NodeVerdict.TheVariants.{Hits};
 ghost use Rattle.node_verdicts.specs.Lifted.{HavePaths};
-ghost use Rattle.node_verdicts.specs.Noted.{AreNoted, IsVerdictFor, IsWayFor};
+ghost use Rattle.node_verdicts.specs.Noted.{AreNoted, IsVerdictFor};
 
 use crate::judged::{Ends, Judged, Paths};
-use line_blocks::{LineBlocks, expand_path, run_laws};
+use line_blocks::{LineBlocks, run_laws, way_of};
 use node_spec::{NodeVerdict, Ways};
-use path_model::choices_of;
 use std::alloc::{AllocError, Global};
-use transition_spec::{Choices, Way};
 
 /// Hits for each node. Where no judgement of a run is noted, the node isn't the first of one, and always hits.
 pub(crate) fn hits(alloc: Global, count: usize) -> Result<Vec<NodeVerdict>, AllocError>
@@ -70,17 +66,4 @@ fn verdict_of(alloc: Global, blocks: &LineBlocks, ends: Ends) -> Result<NodeVerd
             miss: way_of(alloc, blocks, &miss)?,
         }))),
     }
-}
-
-// The way of the path that one of the runs stands for.
-fn way_of(alloc: Global, blocks: &LineBlocks, path: &[u32]) -> Result<Way, AllocError>
-    requires { IsPath (graph_step blocks.now.small) 0 (reverse path.now) }
-    ensures { IfOk result (IsWayFor blocks.now (reverse path.now)) }
-{
-    let whole = expand_path(alloc, blocks, path)?;
-    let letters = choices_of(alloc, blocks.whole(), &whole)?;
-    Ok(Way {
-        steps: whole.len() as u64,
-        choices: Choices::from_letters(letters),
-    })
 }

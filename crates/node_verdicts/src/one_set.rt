@@ -1,25 +1,26 @@
 // What the nodes do that fetch one set.
-ghost use Rattle.std.specs.Prelude.{◌≡◌, ◌+◌, ◌++◌, ◌∷◌, [], ◌<◌, false, true, not, length, reverse, Some, IfOk, IfErr, OnOk};
+ghost use Rattle.std.specs.Prelude.{◌≡◌, ◌↔◌, ◌+◌, ◌++◌, ◌∷◌, [], ◌<◌, ℕ, false, true, length, slice_index_or, IfOk, IfErr, OnOk};
 ghost use Rattle.std.specs.List.{Contains};
 ghost use Rattle.cache_spec.specs.Blocks.{HaveFew};
-ghost use Rattle.focus_spec.specs.Younger.{fetch_at};
-ghost use Rattle.focus_spec.specs.Fate.{AllEnd};
-ghost use Rattle.focus_plain.specs.Judged.{IsPathTo};
 ghost use Rattle.node_spec.specs.declared.verdict.Kept.TheVariants.{EachAddress};
 ghost use Rattle.path_model.specs.Graph.{address_of, addresses_of};
 ghost use Rattle.set_view.specs.View.{IsFault, IsView};
-ghost use Rattle.node_verdicts.specs.Judged.{AreJudged, IsEnds, IsFetcher, IsFetchOf, IsSpared, addresses_with};
+ghost use Rattle.node_verdicts.specs.Judged.{AreJudged, IsFetcher, IsFetchOf, addresses_with};
+ghost use Rattle.node_verdicts.specs.Aged.{IsOpen, IsSettled};
+ghost use Rattle.node_verdicts.specs.Witnesses.{AreWitnesses};
+ghost use Rattle.node_verdicts.specs.Found.{AreJobsWithin, AreJobsOf, IsJobHere};
 
-use crate::judged::{Ends, Judged, Paths};
+use crate::aged::SetAges;
+use crate::judged::{Ends, Found, Judged};
+use crate::witnesses::{Witnesses, ends_at, find_witnesses};
 use cache_geom::Geometry;
-use focus_plain::{Classification, Judgement, judge};
 use node_spec::Kept;
 use path_model::{Graph, Start};
 use set_view::{SetView, ViewFault, view};
 use std::alloc::{AllocError, Global};
 
-/// What the paths can do that end in each node which fetches the set. The error has the number of the set's fetched
-/// blocks where they are too many.
+/// What the paths can do that end in each node which fetches the set, and which of the set's blocks the ages leave
+/// unclear. The error has the number of the set's fetched blocks where they are too many.
 pub(crate) fn judge_set(
     alloc: Global,
     graph: &Graph,
@@ -27,57 +28,142 @@ pub(crate) fn judge_set(
     start: Start,
     kept: Kept,
     set: u32,
-) -> Result<Vec<Judged>, ViewFault>
+) -> Result<Found, ViewFault>
     requires { set < geometry.now.sets }
-    ensures judged { IfOk result (λ judged.
-        AreJudged graph.now geometry.now start kept (IsFetcher graph.now geometry.now set (set + 1)) judged.items) }
-    ensures few { IfOk result (λ judged. HaveFew (addresses_of graph.now) geometry.now set) }
+    ensures judged { IfOk result (λ found. AreJudged graph.now geometry.now start kept
+        (IsFetcher graph.now geometry.now set (set + 1)) found.judged.items) }
+    ensures jobs { IfOk result (λ found. AreJobsWithin graph.now geometry.now start set (set + 1) found.jobs.items) }
+    ensures few { IfOk result (λ found. HaveFew (addresses_of graph.now) geometry.now set) }
     ensures fault { IfErr result (λ fault. IsFault graph.now geometry.now set fault) }
 {
     let view = view(alloc, graph, geometry, set)?;
-    let judged = judge_blocks(alloc, &view, start, kept)?;
-    Ok(judged)
+    let found = judge_view(alloc, &view, start, kept)?;
+    Ok(found)
 }
 
-// The same of each node that fetches a block of the view.
+// The same of each node that fetches a block of the view. The ages settle what they can; each block with a fetch that
+// they leave open is judged by itself.
+fn judge_view(alloc: Global, view: &SetView, start: Start, kept: Kept) -> Result<Found, AllocError>
+    requires { IsView view.now }
+    ensures judged { IfOk result (λ found. AreJudged view.now.nodes view.now.geometry start kept
+        (IsFetchOf view.now (length view.now.blocks)) found.judged.items) }
+    ensures jobs { IfOk result (λ found. AreJobsOf view.now start (length view.now.blocks) found.jobs.items) }
+{
+    let ages = SetAges::of(alloc, view, start)?;
+    let flags = open_blocks(alloc, &ages)?;
+    judge_blocks(alloc, &ages, kept, &flags)
+}
+
+// Whether the ages leave a fetch of each block open.
+fn open_blocks(alloc: Global, ages: &SetAges) -> Result<Vec<bool>, AllocError>
+    ensures one_each { IfOk result (λ flags. length flags.items ≡ length ages.now.view.blocks) }
+    ensures all { IfOk result (λ flags. (block n : ℕ) → IsOpen ages.now block n
+        → slice_index_or flags.items block false ≡ true) }
+{
+    let blocks = ages.view.blocks();
+    let mut flags = vec![in alloc; false; blocks.len()]?;
+    for node in 0..ages.view.graph().nodes().len() as u32 {
+        if let Some(block) = ages.open_at(node) {
+            flags[block as usize] = true;
+        }
+    }
+    Ok(flags)
+}
+
+// What the ages settle, and then each block with a fetch that they leave open.
 fn judge_blocks(
     alloc: Global,
-    view: &SetView,
-    start: Start,
+    ages: &SetAges,
     kept: Kept,
-) -> Result<Vec<Judged>, AllocError>
-    requires { IsView view.now }
-    ensures { IfOk result (λ judged. AreJudged view.now.nodes view.now.geometry start kept
-        (IsFetchOf view.now (length view.now.blocks)) judged.items) }
+    flags: &[bool],
+) -> Result<Found, AllocError>
+    requires one_each { length flags.now ≡ length ages.now.view.blocks }
+    requires all { (block n : ℕ) → IsOpen ages.now block n → slice_index_or flags.now block false ≡ true }
+    ensures judged { IfOk result (λ found. AreJudged ages.now.view.nodes ages.now.view.geometry ages.now.start kept
+        (IsFetchOf ages.now.view (length ages.now.view.blocks)) found.judged.items) }
+    ensures jobs { IfOk result (λ found.
+        AreJobsOf ages.now.view ages.now.start (length ages.now.view.blocks) found.jobs.items) }
+{
+    let blocks = ages.view.blocks();
+    let mut found = Found {
+        judged: judge_settled(alloc, ages)?,
+        jobs: Vec::new(alloc),
+    };
+    for block in 0..blocks.len() as u16 {
+        if flags[block as usize] {
+            found.append(judge_block(alloc, ages, block, kept)?)?;
+        }
+    }
+    Ok(found)
+}
+
+// What the ages settle.
+fn judge_settled(alloc: Global, ages: &SetAges) -> Result<Vec<Judged>, AllocError>
+    ensures { IfOk result (λ judged. (kept : Kept) → AreJudged ages.now.view.nodes ages.now.view.geometry ages.now.start kept
+        (IsSettled ages.now) judged.items) }
 {
     let mut judged = Vec::new(alloc);
-    for block in 0..view.blocks().len() as u16 {
-        let mut of_block = judge_block(alloc, view, block, start, kept)?;
-        judged.append(&mut of_block)?;
+    for node in 0..ages.view.graph().nodes().len() as u32 {
+        if let Some(ends) = ages.settled_at(node) {
+            judged.push(Judged { node, ends })?;
+        }
     }
     Ok(judged)
 }
 
-// The same of each node that fetches the block.
-fn judge_block(
+// The same of each node whose fetch of the block the ages leave open.
+fn judge_block(alloc: Global, ages: &SetAges, block: u16, kept: Kept) -> Result<Found, AllocError>
+    requires { block < length ages.now.view.blocks }
+    ensures judged { IfOk result (λ found. AreJudged ages.now.view.nodes ages.now.view.geometry ages.now.start kept
+        (IsOpen ages.now block) found.judged.items) }
+    ensures jobs { IfOk result (λ found. (number : ℕ) → Contains found.jobs.items number
+        ↔ IsJobHere ages.now.view ages.now.start block number) }
+{
+    let witnesses = find_witnesses(alloc, ages, block)?;
+    Ok(Found {
+        judged: judge_open(alloc, ages, block, &witnesses, kept)?,
+        jobs: jobs_of(alloc, ages, block, &witnesses)?,
+    })
+}
+
+// The block, where it was searched.
+fn jobs_of(
     alloc: Global,
-    view: &SetView,
+    ages: &SetAges,
     block: u16,
-    start: Start,
+    witnesses: &Witnesses,
+) -> Result<Vec<u32>, AllocError>
+    requires block { block < length ages.now.view.blocks }
+    requires witnesses { AreWitnesses ages.now block witnesses.now }
+    ensures { IfOk result (λ jobs. (number : ℕ) → Contains jobs.items number
+        ↔ IsJobHere ages.now.view ages.now.start block number) }
+{
+    let mut jobs = Vec::new(alloc);
+    match witnesses {
+        Witnesses::Bounds(_) => {}
+        Witnesses::Search(_) => jobs.push(ages.view.blocks()[block as usize])?,
+    }
+    Ok(jobs)
+}
+
+// What the paths can do that end in each node whose fetch of the block is open.
+fn judge_open(
+    alloc: Global,
+    ages: &SetAges,
+    block: u16,
+    witnesses: &Witnesses,
     kept: Kept,
 ) -> Result<Vec<Judged>, AllocError>
-    requires view { IsView view.now }
-    requires block { block < length view.now.blocks }
-    ensures { IfOk result (λ judged. AreJudged view.now.nodes view.now.geometry start kept
-        (λ n. fetch_at view.now.fetches n ≡ Some block) judged.items) }
+    requires { AreWitnesses ages.now block witnesses.now }
+    ensures { IfOk result (λ judged. AreJudged ages.now.view.nodes ages.now.view.geometry ages.now.start kept
+        (IsOpen ages.now block) judged.items) }
 {
-    let found = judge(alloc, view, block, start)?;
     let mut addresses = Vec::new(alloc);
     let mut judged = Vec::new(alloc);
-    for node in 0..view.graph().nodes().len() as u32 {
-        if view.fetch(node) == Some(block) {
-            let at = address_of(view, node);
-            let ends = ends_at(alloc, &found, node, wants(kept, &addresses, at))?;
+    for node in 0..ages.view.graph().nodes().len() as u32 {
+        if ages.open_at(node) == Some(block) {
+            let at = address_of(ages.view, node);
+            let ends = ends_at(alloc, witnesses, node, wants(kept, &addresses, at))?;
             add(&mut addresses, &mut judged, at, Judged { node, ends })?;
         }
     }
@@ -116,35 +202,5 @@ fn wants(kept: Kept, addresses: &[u32], at: u32) -> bool
     match kept {
         Kept::EachNode => true,
         Kept::EachAddress => !addresses.contains(&at),
-    }
-}
-
-// What the paths can do that end in a node which fetches the block, with paths of both kinds if they are wanted.
-fn ends_at(alloc: Global, found: &Judgement, node: u32, wanted: bool) -> Result<Ends, AllocError>
-    requires { fetch_at found.now.view.fetches node ≡ Some found.now.block }
-    ensures ends { IfOk result (IsEnds found.now.view.nodes found.now.view.geometry found.now.start node) }
-    ensures spared { IfOk result (IsSpared wanted) }
-{
-    match found.classification(node) {
-        Classification::Hits => Ok(Ends::Hits),
-        Classification::Misses => Ok(Ends::Misses),
-        Classification::Both if wanted => Ok(Ends::Both(Some(Paths {
-            hit: path_to(alloc, found, node, true)?,
-            miss: path_to(alloc, found, node, false)?,
-        }))),
-        Classification::Both => Ok(Ends::Both(None)),
-    }
-}
-
-// A path to the node that can hit there, or miss, where some path can.
-fn path_to(alloc: Global, found: &Judgement, node: u32, hits: bool) -> Result<Vec<u32>, AllocError>
-    requires fetches { fetch_at found.now.view.fetches node ≡ Some found.now.block }
-    requires some { AllEnd found.now.view.nodes found.now.view.geometry found.now.start node (not hits) → ⊥ }
-    ensures { IfOk result (λ path.
-        IsPathTo found.now.view.nodes found.now.view.geometry found.now.start node hits (reverse path.items)) }
-{
-    match found.path(alloc, node, hits)? {
-        Some(path) => Ok(path),
-        None => unreachable!(),
     }
 }

@@ -2,11 +2,13 @@
 ghost use Rattle.std.specs.Prelude.{◌≡◌, ◌+◌, ◌-◌, ◌<◌, ◌≤◌, ℕ, length, IfOk, IfErr, IfSome, IfNone};
 ghost use Rattle.path_model.specs.Graph.{address_of};
 ghost use Rattle.node_verdicts.specs.Judged.{AreJudged, IsFetcher};
+ghost use Rattle.node_verdicts.specs.Found.{AreJobsWithin};
 ghost use Rattle.node_verdicts.specs.Ranges.{IsSpan, AreFew, IsFaultWithin, widened};
 
-use crate::judged::Judged;
+use crate::judged::Found;
 use crate::lift::lift_all;
 use crate::one_set::judge_set;
+use age_graphs::job_laws;
 use cache_geom::Geometry;
 use node_spec::Kept;
 use path_model::{Graph, Node, Start};
@@ -14,8 +16,8 @@ use set_view::ViewFault;
 use sparse_graph::{sparse_for, sparse_laws};
 use std::alloc::Global;
 
-/// The number of parts into which the sets of a graph are divided, each with a smaller graph. More parts make more graphs out of one,
-/// fewer parts a longer way back to the whole graph.
+/// The number of parts into which the sets of a graph are divided, each with a smaller graph. More parts make more
+/// graphs out of one, fewer parts a longer way back to the whole graph.
 const PARTS: u32 = 16;
 
 /// Sets, from the first of them to the last.
@@ -25,7 +27,8 @@ pub(crate) struct Span {
     pub last: u32,
 }
 
-/// What the paths can do that end in each node which fetches one of these sets: `low` and those above it, below `high`.
+/// What the paths can do that end in each node which fetches one of these sets: `low` and those above it, below `high`;
+/// and which of their blocks the ages leave unclear.
 ///
 /// It goes on from a sparse graph for these sets with one part of them after another, down to single sets. An error has
 /// the first set with too many fetched blocks.
@@ -38,22 +41,27 @@ pub(crate) fn judge_sets(
     kept: Kept,
     low: u32,
     high: u32,
-) -> Result<Vec<Judged>, ViewFault>
+) -> Result<Found, ViewFault>
     requires { high ≤ geometry.now.sets }
-    ensures judged { IfOk result (λ judged.
-        AreJudged graph.now geometry.now start kept (IsFetcher graph.now geometry.now low high) judged.items) }
-    ensures few { IfOk result (λ judged. AreFew graph.now geometry.now low high) }
+    ensures judged { IfOk result (λ found. AreJudged graph.now geometry.now start kept
+        (IsFetcher graph.now geometry.now low high) found.judged.items) }
+    ensures jobs { IfOk result (λ found. AreJobsWithin graph.now geometry.now start low high found.jobs.items) }
+    ensures few { IfOk result (λ found. AreFew graph.now geometry.now low high) }
     ensures fault { IfErr result (λ fault. IsFaultWithin graph.now geometry.now low high fault) }
 {
     sparse_laws();
+    job_laws();
     let Some(span) = fetched_within(graph.nodes(), geometry, low, high) else {
-        return Ok(Vec::new(alloc));
+        return Ok(Found::none(alloc));
     };
     match sparse_for(alloc, graph, geometry, span.first, span.last + 1)? {
         Some(sparse) => {
-            let judged = judge_span(alloc, sparse.graph(), geometry, start, kept, span)?;
-            let lifted = lift_all(alloc, &sparse, judged)?;
-            Ok(lifted)
+            let found = judge_span(alloc, sparse.graph(), geometry, start, kept, span)?;
+            let judged = lift_all(alloc, &sparse, found.judged)?;
+            Ok(Found {
+                judged,
+                jobs: found.jobs,
+            })
         }
         None => judge_span(alloc, graph, geometry, start, kept, span),
     }
@@ -68,12 +76,14 @@ fn judge_span(
     start: Start,
     kept: Kept,
     span: Span,
-) -> Result<Vec<Judged>, ViewFault>
+) -> Result<Found, ViewFault>
     requires some { span.first ≤ span.last }
     requires inside { span.last < geometry.now.sets }
-    ensures judged { IfOk result (λ judged. AreJudged graph.now geometry.now start kept
-        (IsFetcher graph.now geometry.now span.first (span.last + 1)) judged.items) }
-    ensures few { IfOk result (λ judged. AreFew graph.now geometry.now span.first (span.last + 1)) }
+    ensures judged { IfOk result (λ found. AreJudged graph.now geometry.now start kept
+        (IsFetcher graph.now geometry.now span.first (span.last + 1)) found.judged.items) }
+    ensures jobs { IfOk result (λ found.
+        AreJobsWithin graph.now geometry.now start span.first (span.last + 1) found.jobs.items) }
+    ensures few { IfOk result (λ found. AreFew graph.now geometry.now span.first (span.last + 1)) }
     ensures fault { IfErr result (λ fault. IsFaultWithin graph.now geometry.now span.first (span.last + 1) fault) }
 {
     let Span { first, last } = span;
@@ -83,15 +93,15 @@ fn judge_span(
     // The sets of a cache have numbers of 32 bits, and so has the one after the last of these.
     let sets = geometry.sets();
     prove!(last < sets);
-    let mut judged = Vec::new(alloc);
+    let mut found = Found::none(alloc);
     let mut low = first;
     while low <= last {
         let high = part_end(low, first, last);
-        let mut part = judge_sets(alloc, graph, geometry, start, kept, low, high)?;
-        judged.append(&mut part)?;
+        let part = judge_sets(alloc, graph, geometry, start, kept, low, high)?;
+        found.append(part)?;
         low = high;
     }
-    Ok(judged)
+    Ok(found)
 }
 
 /// The end of the part of these sets that begins at `low`: a sixteenth of them, or what is left.

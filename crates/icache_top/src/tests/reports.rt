@@ -1,6 +1,6 @@
 // The reports of programs that are classified.
 use crate::tests::graphs::{doubling, two_ways};
-use crate::tests::{SMALL, check, nops, run_on, words_of, wrap};
+use crate::tests::{SMALL, check, check_jobs, has_jobs, nops, run_on, words_of, wrap};
 use crate::{IdleGate, Status, run};
 use byte_port::{MemSink, SureSink, SureSource};
 use flow_spec::FlowFault;
@@ -85,7 +85,42 @@ fn branches_and_calls_are_classified(rt: HostRuntime) -> Result<(), Fail> {
         check(&rt, alloc, line, words, Status::Done, text)?;
     }
     let words = two_ways(alloc)?;
-    check(&rt, alloc, TWO_WAYS, &words, Status::Done, TWO_WAYS_REPORT)?;
+    let done = Status::Done;
+    check_jobs(
+        &rt,
+        alloc,
+        TWO_WAYS,
+        &words,
+        done,
+        TWO_WAYS_REPORT,
+        &[0x2000],
+    )?;
+    Ok(())
+}
+
+/// A loop of two instructions within a loop of six.
+const NESTED: [u32; 7] = [0x13, 0x13, 0xfe051ee3, 0x13, 0x13, 0xfedff06f, 0x100073];
+
+#[test]
+fn the_blocks_that_ages_leave_unclear_are_the_jobs(rt: HostRuntime) -> Result<(), Fail> {
+    let alloc = rt.alloc();
+    let cases: [(&str, &[u32]); 7] = [
+        ("classify --line 4 --sets 2 --ways 2", &[0x4003, 0x4004]),
+        (
+            "classify --line 4 --sets 2 --ways 2 --contexts",
+            &[0x4003, 0x4004],
+        ),
+        ("classify --line 4 --sets 2 --ways 2 --start any", &[0x4004]),
+        ("classify --line 4 --sets 1 --ways 3", &[]),
+        ("classify --line 4 --sets 1 --ways 3 --start any", &[0x4003]),
+        ("classify --line 4 --sets 2 --ways 3", &[]),
+        ("graph", &[]),
+    ];
+    for (line, jobs) in cases {
+        let ran = run_on(&rt, alloc, line, wrap(alloc, &NESTED)?)?;
+        assert_eq!(rt; ran.outcome.status, Status::Done, "{line}");
+        assert!(rt; has_jobs(&ran.outcome, jobs), "{line}");
+    }
     Ok(())
 }
 

@@ -1,4 +1,5 @@
 use Rattle.std.proofs.Common.{◌≡◌, ◌≤◌, ◌-◌, length}
+use Rattle.node_verdicts.specs.Found.{AreJobsWithin}
 use Rattle.node_verdicts.specs.Noted.{IsAllNoted}
 use Rattle.node_verdicts.specs.Ranges.{AreFew}
 use Rattle.node_verdicts.proofs.verdicts.judge_parts.Given as goal
@@ -9,6 +10,7 @@ invariant-loop-low l = record {
   below : l.low ≤ l.sets;
   one_each : length l.verdicts.items ≡ length l.blocks.nodes;
   few : AreFew l.blocks.small l.geometry 0 l.low;
+  jobs : AreJobsWithin l.blocks.small l.geometry l.fn.start 0 l.low l.jobs.items;
   noted : IsAllNoted l.blocks l.geometry l.fn.start l.fn.kept l.low l.verdicts.items;
 }
 

@@ -1,15 +1,20 @@
-use Rattle.std.proofs.Common.{ℕ, ◌<◌, List, Vec, Global, sym, subst, arith}
-use Rattle.cache_spec.specs.Geometry.{Geometry}
+use Rattle.std.proofs.Common.{ℕ, ◌<◌, ◌↔◌, List, sym, subst, arith}
+use Rattle.cache_spec.specs.Geometry.{Geometry, block_of, set_of}
 use Rattle.focus_spec.specs.Fate.{PathCanEnd}
 use Rattle.line_blocks.specs.Expand.{IsExpanded}
 use Rattle.transition_spec.specs.Path.{IsPath}
-use Rattle.path_model.specs.Graph.{graph_step}
+use Rattle.path_model.specs.declared.graph.Node.{Node}
+use Rattle.path_model.specs.Graph.{graph_step, address_of}
+use Rattle.age_spec.specs.Jobs.{IsJob}
 use Rattle.node_verdicts.specs.Judged.{set_at}
 use Rattle.node_verdicts.specs.Ranges.{AreFew, IsFaultWithin}
+use Rattle.node_verdicts.specs.Found.{AreJobsWithin}
+use Rattle.node_verdicts.specs.Verdicts.{IsFault}
 use Rattle.node_spec.specs.declared.verdict.NodeVerdict.{NodeVerdict}
 use Rattle.node_verdicts.specs.Noted.{IsAllNoted}
 use Rattle.node_verdicts.proofs.Right.{Laws, right_whole, ways_whole, few_all, fault_all}
-use Rattle.node_verdicts.proofs.Spans.{err_also, ok_as}
+use Rattle.node_verdicts.proofs.Jobs.{jobs_as, jobs_all}
+use Rattle.node_verdicts.proofs.Spans.{err_as}
 use Rattle.node_verdicts.proofs.verdicts.node_verdicts.Goals as goal
 use Rattle.node_verdicts.proofs.verdicts.node_verdicts.Goals.{In_ok-blocks}
 
@@ -41,14 +46,18 @@ laws_of c =
       blocks = λ set blocks. c.run_laws.ensures.blocks r set blocks are;
     }
 
--- each node fetches one of the sets
+-- each block lies in one of the sets
+set_below : (c : In_ok-blocks) (block : ℕ) → set_of c.args.geometry.now block < c.args.geometry.now.sets
+set_below c block = omega (arith, c.sets-sets.ensures.least, c.sets-sets.ensures.value)
+
+-- and so each node fetches one of them
 sets_below : (c : In_ok-blocks) (p : ℕ)
     → set_at c.in_ok-blocks.blocks.small c.in_ok-blocks.blocks.shape p < c.args.geometry.now.sets
 sets_below c p =
     let g = c.args.geometry.now in
     let small = c.in_ok-blocks.blocks.small in
     subst (λ (h : Geometry). set_at small h p < g.sets) (sym c.in_ok-blocks.ensures.shape)
-    (let below : set_at small g p < g.sets = omega (arith, c.sets-sets.ensures.least, c.sets-sets.ensures.value) in below)
+    (set_below c (block_of g (address_of small p)))
 
 -- what is noted, where the shape of the cache is that of the runs
 noted_by : (c : In_ok-blocks) (found : List NodeVerdict)
@@ -64,45 +73,52 @@ returns-clause-right c =
     let known = (goal.at.returns-clause-right c).In_ok-blocks in
     let r = c.in_ok-blocks.blocks in
     let g = c.args.geometry.now in
-    ok_as _ _ c.judge_parts.result
-    (λ (found : Vec NodeVerdict Global) all.
-    let noted = noted_by known found.items all in
-    right_whole r c.args.start (laws_of known) c.args.kept g.sets noted.judged found.items
-    (sets_below known) noted.are noted.noted c.args.graph.now g c.in_ok-blocks.ensures.nodes
-    c.in_ok-blocks.ensures.shape)
-    c.judge_parts.ensures.noted
+    let found = c.in_ok-settled.settled.verdicts.items in
+    let noted = noted_by known found c.in_ok-settled.ensures.noted in
+    right_whole r c.args.start (laws_of known) c.args.kept g.sets noted.judged found (sets_below known) noted.are
+    noted.noted c.args.graph.now g c.in_ok-blocks.ensures.nodes c.in_ok-blocks.ensures.shape
 
 pub returns-clause-ways : goal.returns-clause-ways
 returns-clause-ways c =
     let known = (goal.at.returns-clause-ways c).In_ok-blocks in
     let r = c.in_ok-blocks.blocks in
-    ok_as _ _ c.judge_parts.result
-    (λ (found : Vec NodeVerdict Global) all.
-    let noted = noted_by known found.items all in
-    ways_whole r c.args.start (laws_of known) c.args.kept c.args.geometry.now.sets noted.judged found.items
-    (sets_below known) noted.are noted.noted c.args.graph.now c.in_ok-blocks.ensures.nodes)
-    c.judge_parts.ensures.noted
+    let found = c.in_ok-settled.settled.verdicts.items in
+    let noted = noted_by known found c.in_ok-settled.ensures.noted in
+    ways_whole r c.args.start (laws_of known) c.args.kept c.args.geometry.now.sets noted.judged found (sets_below known)
+    noted.are noted.noted c.args.graph.now c.in_ok-blocks.ensures.nodes
 
 pub returns-clause-few : goal.returns-clause-few
 returns-clause-few c =
     let known = (goal.at.returns-clause-few c).In_ok-blocks in
     let r = c.in_ok-blocks.blocks in
     let g = c.args.geometry.now in
-    ok_as _ _ c.judge_parts.result
-    (λ (found : Vec NodeVerdict Global) few.
-    few_all r c.args.start (laws_of known) c.args.graph.now g c.in_ok-blocks.ensures.nodes
-    c.in_ok-blocks.ensures.shape
-    (subst (λ (h : Geometry). AreFew r.small h 0 g.sets) (sym c.in_ok-blocks.ensures.shape) few))
-    c.judge_parts.ensures.few
+    few_all r c.args.start (laws_of known) c.args.graph.now g c.in_ok-blocks.ensures.nodes c.in_ok-blocks.ensures.shape
+    (subst (λ (h : Geometry). AreFew r.small h 0 g.sets) (sym c.in_ok-blocks.ensures.shape)
+    c.in_ok-settled.ensures.few)
 
-pub returns-clause-fault : goal.returns-clause-fault
-returns-clause-fault c =
-    let known = (goal.at.returns-clause-fault c).In_ok-blocks in
+pub returns-clause-jobs : goal.returns-clause-jobs
+returns-clause-jobs c =
+    let known = (goal.at.returns-clause-jobs c).In_ok-blocks in
     let r = c.in_ok-blocks.blocks in
     let g = c.args.geometry.now in
-    err_also _ _ c.judge_parts.result
-    (λ fault many.
-    fault_all r c.args.start (laws_of known) c.args.graph.now g fault c.in_ok-blocks.ensures.nodes
+    let start = c.args.start in
+    let jobs = c.in_ok-settled.settled.jobs.items in
+    let same : (block : ℕ) → IsJob r.nodes g start block ↔ IsJob r.small g start block = λ block.
+    subst (λ (h : Geometry). IsJob r.nodes h start block ↔ IsJob r.small h start block) c.in_ok-blocks.ensures.shape
+    (c.job_laws.ensures.runs r start block c.in_ok-blocks.ensures.runs) in
+    let whole = subst (λ (ns : List Node). AreJobsWithin ns g start 0 g.sets jobs) c.in_ok-blocks.ensures.nodes
+    (jobs_as r.small g start 0 g.sets r.nodes (λ block above below. same block) jobs c.in_ok-settled.ensures.jobs) in
+    jobs_all c.args.graph.now g start jobs c.in_ok-jobs.jobs.items (set_below known) whole c.in_ok-jobs.ensures.rising
+    c.in_ok-jobs.ensures.same
+
+pub returns-in_err-settled-clause-fault : goal.returns-in_err-settled-clause-fault
+returns-in_err-settled-clause-fault c =
+    let known = (goal.at.returns-in_err-settled-clause-fault c).In_ok-blocks in
+    let r = c.in_ok-blocks.blocks in
+    let g = c.args.geometry.now in
+    let fault = c.in_err-settled.field-0.0 in
+    err_as (IsFault c.args.graph.now g) _ fault c.from_residual-in_err-settled.ensures.1
+    (fault_all r c.args.start (laws_of known) c.args.graph.now g fault c.in_ok-blocks.ensures.nodes
     c.in_ok-blocks.ensures.shape
-    (subst (λ (h : Geometry). IsFaultWithin r.small h 0 g.sets fault) (sym c.in_ok-blocks.ensures.shape) many))
-    c.judge_parts.ensures.fault
+    (subst (λ (h : Geometry). IsFaultWithin r.small h 0 g.sets fault) (sym c.in_ok-blocks.ensures.shape)
+    c.in_err-settled.ensures.fault))

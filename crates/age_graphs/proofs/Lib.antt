@@ -1,0 +1,4 @@
+pub mod Views
+pub mod Carried
+pub mod SparseAges
+pub mod RunAges
