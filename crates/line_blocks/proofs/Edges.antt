@@ -1,15 +1,15 @@
 -- The edges of a graph and those of its runs.
-use Rattle.std.proofs.Common.{◌≡◌, ℕ, zero, suc, ◌<◌, ◌≤◌, ◌⊎◌, inl, inr, ⊎_elim, List, length, map, Option, Some, None, refl, ap, sym, ◌∙◌, subst, arith, IsTrue, unwrap_or}
-use Rattle.std.specs.Prelude.{slice_get}
-use Rattle.std.specs.Option.{option_map}
-use Rattle.std.proofs.lemmas.Bool.{cases_eq}
+use Rattle.std.proofs.Common.{◌≡◌, ℕ, zero, suc, ◌<◌, ◌≤◌, ◌⊎◌, inl, inr, ⊎_elim, Bool, cond, List, [], ◌∷◌, length, map, Option, Some, None, refl, ap, sym, ◌∙◌, subst, arith, IsTrue, unwrap_or}
+use Rattle.std.specs.Prelude.{slice_get, Ok}
+use Rattle.std.specs.Option.{option_map, option_to_list}
+use Rattle.std.proofs.lemmas.Bool.{cases_eq, ne_eqb}
 use Rattle.std.proofs.lemmas.Bool.Decides.{nat_tests}
 use Rattle.std.proofs.lemmas.List.{length-map}
 use Rattle.std.proofs.lemmas.Option.{same_Some, slice_get_within, slice_get-map}
 use Rattle.list_lemmas.proofs.Members.{found-inside}
-use Rattle.transition_spec.specs.Path.{IsSuccessor}
+use Rattle.transition_spec.specs.Path.{IsSuccessor, IsLetter}
 use Rattle.path_model.specs.declared.graph.Node.{Node}
-use Rattle.path_model.specs.Graph.{IsGraph, graph_step, address, address_of, are_fit}
+use Rattle.path_model.specs.Graph.{IsGraph, graph_step, successors, address, address_of, are_fit}
 use Rattle.path_model.proofs.Edges.{node-from_successor, leads-from_successor, successor-from_node, fit_at}
 use Rattle.line_blocks.specs.declared.plan.Run.{Run}
 use Rattle.line_blocks.specs.Runs.{Runs, IsPlan, IsHead, IsHeadIf, IsInner, IsPassed, IsPassedBy, IsLeft, run_of, head_of, last_of, head_in, last_in, second_by, node_by, run_node}
@@ -216,6 +216,47 @@ module _ (r : Runs) (are : AreMade r) where
       let head : head_of r.runs (run_of r.numbers up.0) ≡ up.0 = left_edge p up.0 inside to in
       subst (λ (m : ℕ). IsSuccessor (graph_step r.nodes) (last_of r.runs p) m)
       (sym head ∙ ap (head_of r.runs) up.2) to
+
+  -- the letter of two runs' successors is that of their first nodes
+  letter_up : (first second : Option ℕ) (q : ℕ) (letter : List ℕ) → IsTrue (are_fit (length r.nodes) first second)
+      → IsHeadIf r.numbers r.runs first → IsHeadIf r.numbers r.runs second
+      → IsLetter (successors (Some (node_by r.numbers 0 (Some (record { at = 0; first = first; second = second }))))) q letter
+      → IsLetter (successors (Some (record { at = 0; first = first; second = second }))) (head_of r.runs q) letter
+  letter_up None None q letter fit one two is = is
+  letter_up None (Some y) q letter fit one two is = absurd (cc)
+  letter_up (Some x) None q letter fit one two is = is
+  letter_up (Some x) (Some y) q letter fit one two is = elim (cases_eq (run_of r.numbers y) (run_of r.numbers x)) [
+    | inl same ↦
+        let alike : x ≡ y = sym one ∙ (ap (head_of r.runs) (sym same) ∙ two) in
+        absurd (grind (arith, nat_tests))
+    | inr other ↦
+        let apart : second_by (Some (run_of r.numbers x)) (Some (run_of r.numbers y)) ≡ Some (run_of r.numbers y) =
+        ap (λ (b : Bool). cond b None (Some (run_of r.numbers y)))
+        (ne_eqb (run_of r.numbers y) (run_of r.numbers x) other) in
+        let both : IsLetter {C = ℕ} {F = Unit {0}} (Ok (run_of r.numbers x ∷ run_of r.numbers y ∷ [])) q letter =
+        subst (λ (o : Option ℕ).
+        IsLetter {C = ℕ} {F = Unit {0}} (Ok (run_of r.numbers x ∷ option_to_list o)) q letter) apart is in
+        elim both [
+          | inl to ↦ inl (ap (head_of r.runs) to.0 ∙ one, to.1)
+          | inr to ↦ inr (ap (head_of r.runs) to.0 ∙ two, to.1)
+        ]
+  ]
+
+  -- the letter of a move between runs is that of the move between their nodes
+  pub letter_back : (p q : ℕ) (letter : List ℕ) → IsSuccessor (graph_step r.small) p q
+      → IsLetter (graph_step r.small p) q letter
+      → IsLetter (graph_step r.nodes (last_of r.runs p)) (head_of r.runs q) letter
+  letter_back p q letter edge is =
+      let inside : p < length r.runs = small_inside p q edge in
+      let left = (are.plan.2 p inside).3 in
+      let found = left_node (slice_get r.nodes (last_of r.runs p)) left in
+      let node : Node = found.0 in
+      let small = last_node p node inside found.1 in
+      let heads : IsLeft r.numbers r.runs (Some node) = subst (IsLeft r.numbers r.runs) found.1 left in
+      let fit = fit_at r.nodes (length r.nodes) (last_of r.runs p) node are.whole.fit found.1 in
+      subst (λ (o : Option Node). IsLetter (successors o) (head_of r.runs q) letter) (sym found.1)
+      (letter_up node.first node.second q letter fit heads.0 heads.1
+      (subst (λ (o : Option Node). IsLetter (successors o) q letter) small.1 is))
 
   -- the node that a node goes on to is in its run
   passed_next : (n : ℕ) (first second : Option ℕ) → IsPassedBy r.nodes r.shape r.numbers r.runs n first second

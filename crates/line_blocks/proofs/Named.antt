@@ -7,16 +7,14 @@ use Rattle.transition_spec.specs.declared.way.Way.{Way}
 use Rattle.transition_spec.specs.Path.{IsPath, IsSuccessor, IsLetter, HasChoices}
 use Rattle.path_model.specs.declared.graph.Node.{Node}
 use Rattle.path_model.specs.Graph.{graph_step, successors}
-use Rattle.path_model.specs.Letters.{letter_to}
-use Rattle.path_model.proofs.Moves.{letter_to-right}
 use Rattle.path_model.proofs.Reached.{successor_inside}
 use Rattle.path_model.proofs.Turned.{reverse-more}
 use Rattle.line_blocks.specs.Runs.{Runs, AreRuns, IsPassed, IsPassedBy, head_of, last_of}
 use Rattle.line_blocks.specs.Expand.{IsWalk, next_in}
 use Rattle.line_blocks.specs.Ways.{IsWayFor, IsLast, HasMoves, AllMoveOn, after_moves}
-use Rattle.line_blocks.proofs.Edges.{AreMade, next_of, edge_back}
+use Rattle.line_blocks.proofs.Edges.{AreMade, next_of, letter_back}
 use Rattle.line_blocks.proofs.Walks.{base}
-use Rattle.line_blocks.proofs.Trips.{IsOnWay, IsTrip, way_next, trip_first, trip_on, edge_at, run_at, expanded_by}
+use Rattle.line_blocks.proofs.Trips.{IsOnWay, IsTrip, begins, way_next, trip_first, trip_on, edge_at, run_at, expanded_by}
 
 -- the members of a path after this many moves from the node
 members_after : List Node → ℕ → List ℕ → ℕ → List ℕ
@@ -30,11 +28,12 @@ unfolding members_after
 length-members_after nodes n whole zero = omega arith
 length-members_after nodes n whole (suc count) = omega (arith, length-members_after nodes n whole count)
 
--- a walk of the whole graph for a path of the runs, with its choices and the number of its members
-pub record IsNamed (r : Runs) (path : List ℕ) (steps : ℕ) (letters : List ℕ) : Type 0 where
+-- a walk of the whole graph for a path of the runs, with the same choices, and the number of its members
+pub record IsNamed (r : Runs) (path : List ℕ) (steps : ℕ) : Type 0 where
   pub whole : List ℕ
   pub trip : IsTrip r path whole
-  pub choices : HasChoices (graph_step r.nodes) whole letters
+  pub choices : (letters : List ℕ) → HasChoices (graph_step r.small) path letters
+      → HasChoices (graph_step r.nodes) whole letters
   pub as_long : steps ≡ length whole
 
 -- each node but the last of a run moves on within it
@@ -111,14 +110,18 @@ module _ (r : Runs) (are : AreRuns r) where
       )
 
   -- the walk of run 0
-  pub named_first : (path letters : List ℕ) → IsPath (graph_step r.small) 0 (reverse path) → letters ≡ []
-      → IsNamed r (reverse (take 1 path)) 1 letters
-  named_first path letters path_is none = record {
-    whole = head_of r.runs 0 ∷ [];
-    trip = trip_first r are path (head_of r.runs 0 ∷ []) path_is refl;
-    choices = none;
-    as_long = refl;
-  }
+  pub named_first : (path : List ℕ) → IsPath (graph_step r.small) 0 (reverse path) → IsNamed r (reverse (take 1 path)) 1
+  named_first path path_is =
+      let trip : IsTrip r (reverse (take 1 path)) (head_of r.runs 0 ∷ []) =
+      trip_first r are path (head_of r.runs 0 ∷ []) path_is refl in
+      let first = begins r are path path_is in
+      record {
+        whole = head_of r.runs 0 ∷ [];
+        trip = trip;
+        choices = λ letters has.
+            subst (λ (xs : List ℕ). HasChoices (graph_step r.small) (reverse (take 1 xs)) letters) first.1 has;
+        as_long = refl;
+      }
 
   -- the members of a path after the moves from the first node of a run to its last one
   abbrev after_run : ℕ → List ℕ → ℕ → List ℕ
@@ -136,13 +139,12 @@ module _ (r : Runs) (are : AreRuns r) where
       subst (λ (n : ℕ). IsWalk r n (after_run p whole moves) other) (sym has.last ∙ ap (last_of r.runs) way.own)
       (way.walk other walk)
 
-  -- and the move to the next run takes the letter of that node
-  choices_over : (p q moves : ℕ) (whole letters further other : List ℕ) → p < length r.runs → IsCount p moves
+  -- and the move to the next run takes the letter of the move between the runs
+  choices_over : (p q moves : ℕ) (whole letters letter further other : List ℕ) → p < length r.runs → IsCount p moves
       → IsSuccessor (graph_step r.small) p q → IsWalk r (head_of r.runs p) whole other
-      → HasChoices (graph_step r.nodes) whole letters
-      → further ≡ letters ++ letter_to (slice_get r.nodes (last_of r.runs p)) (head_of r.runs q)
-      → HasChoices (graph_step r.nodes) (head_of r.runs q ∷ after_run p whole moves) further
-  choices_over p q moves whole letters further other inside has edge walk choices further_is =
+      → HasChoices (graph_step r.nodes) whole letters → IsLetter (graph_step r.small p) q letter
+      → further ≡ letters ++ letter → HasChoices (graph_step r.nodes) (head_of r.runs q ∷ after_run p whole moves) further
+  choices_over p q moves whole letters letter further other inside has edge walk choices letter_is further_is =
       let last : ℕ = last_of r.runs p in
       let next : ℕ = head_of r.runs q in
       let there = walk_over p moves whole inside has other walk in
@@ -152,22 +154,19 @@ module _ (r : Runs) (are : AreRuns r) where
       same_choices p moves whole letters other inside has.sooner walk choices in
       let all : HasChoices (graph_step r.nodes) (next ∷ last ∷ earlier) further = (
         letters,
-        letter_to (slice_get r.nodes last) next,
+        letter,
         subst (λ (xs : List ℕ). HasChoices (graph_step r.nodes) xs letters) is before,
-        letter_to-right r.nodes last next (edge_back r (base r are) p q edge),
+        letter_back r (base r are) p q letter edge letter_is,
         further_is,
       ) in
       subst (λ (xs : List ℕ). HasChoices (graph_step r.nodes) (next ∷ xs) further)
       (sym {a = after_run p whole moves} {b = last ∷ earlier} is) all
 
   -- a walk with one run more
-  pub named_more : (path : List ℕ) (i steps moves more : ℕ) (letters further : List ℕ) → 1 ≤ i → i < length path
+  pub named_more : (path : List ℕ) (i steps moves more : ℕ) → 1 ≤ i → i < length path
       → IsPath (graph_step r.small) 0 (reverse path) → IsCount (get_or path (i - 1) 0) moves
-      → more ≡ steps + moves + 1
-      → further ≡ letters ++ letter_to (slice_get r.nodes (last_of r.runs (get_or path (i - 1) 0)))
-      (head_of r.runs (get_or path i 0))
-      → IsNamed r (reverse (take i path)) steps letters → IsNamed r (reverse (take (i + 1) path)) more further
-  named_more path i steps moves more letters further some below path_is has more_is further_is named =
+      → more ≡ steps + moves + 1 → IsNamed r (reverse (take i path)) steps → IsNamed r (reverse (take (i + 1) path)) more
+  named_more path i steps moves more some below path_is has more_is named =
       let k : ℕ = i - 1 in
       let p : ℕ = get_or path k 0 in
       let q : ℕ = get_or path i 0 in
@@ -176,23 +175,31 @@ module _ (r : Runs) (are : AreRuns r) where
       let split : reverse (take i path) ≡ p ∷ reverse (take k path) =
       subst (λ (j : ℕ). reverse (take j path) ≡ p ∷ reverse (take k path)) same
       (reverse-more path k 0 (omega (arith, same, below))) in
+      let longer : reverse (take (i + 1) path) ≡ q ∷ p ∷ reverse (take k path) =
+      reverse-more path i 0 below ∙ ap (λ (xs : List ℕ). q ∷ xs) split in
       let run_is : named.trip.last ≡ p = cc (named.trip.path_is, split) in
       let walk : IsWalk r (head_of r.runs p) named.whole named.trip.others =
       subst (λ (j : ℕ). IsWalk r (head_of r.runs j) named.whole named.trip.others) run_is named.trip.walk in
       let after : List ℕ = after_run p named.whole moves in
+      let edge = edge_at r are path i some below path_is in
       record {
         whole = head_of r.runs q ∷ after;
         trip = trip_on r are path i named.whole after (head_of r.runs q ∷ after) some below path_is
             (walk_over p moves named.whole inside has) refl named.trip;
-        choices = choices_over p q moves named.whole letters further named.trip.others inside has
-            (edge_at r are path i some below path_is) walk named.choices further_is;
+        choices = λ further choices.
+            let (letters, letter, before, letter_is, further_is) =
+            subst (λ (xs : List ℕ). HasChoices (graph_step r.small) xs further) longer choices in
+            choices_over p q moves named.whole letters letter further named.trip.others inside has edge walk
+            (named.choices letters (subst (λ (xs : List ℕ). HasChoices (graph_step r.small) xs letters) (sym split) before))
+            letter_is further_is;
         as_long = omega (arith, more_is, named.as_long, length-members_after r.nodes (head_of r.runs p) named.whole moves);
       }
 
   -- the walk is named by its way
-  pub way_for : (path : List ℕ) (way : Way) → IsNamed r path way.steps way.choices → IsWayFor r path way
-  way_for path way named = (
+  pub way_for : (path : List ℕ) (way : Way) → IsNamed r path way.steps
+      → HasChoices (graph_step r.small) path way.choices → IsWayFor r path way
+  way_for path way named choices = (
     named.whole,
     expanded_by r are path named.whole named.trip,
-    record { steps = named.as_long; choices = named.choices },
+    record { steps = named.as_long; choices = named.choices way.choices choices },
   )

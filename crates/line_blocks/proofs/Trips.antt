@@ -52,7 +52,7 @@ module _ (r : Runs) (are : AreRuns r) where
       }
 
   -- a path of the runs that stands first member first begins with run 0
-  begins : (path : List ℕ) → IsPath (graph_step r.small) 0 (reverse path) → (rest : List ℕ) × (path ≡ 0 ∷ rest)
+  pub begins : (path : List ℕ) → IsPath (graph_step r.small) 0 (reverse path) → (rest : List ℕ) × (path ≡ 0 ∷ rest)
   begins [] path = absurd path
   begins (x ∷ rest) path =
       let split : reverse (x ∷ rest) ≡ reverse rest ++ x ∷ [] = reverse-split (x ∷ rest) 1 in

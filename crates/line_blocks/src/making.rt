@@ -1,12 +1,12 @@
 // A graph, and that of its runs.
 ghost use Rattle.std.specs.Prelude.{◌≡◌, ◌↔◌, ◌<◌, length, map, Some, IsTrue, IfOk, IfSome, IfNone};
 ghost use Rattle.path_model.specs.Graph.{address_of};
-ghost use Rattle.line_blocks.specs.Runs.{AreRuns, AreRising, IsHead, IsPlan, node_by, run_node, run_of, head_of, last_of, second_by};
+ghost use Rattle.line_blocks.specs.Runs.{AreRuns, AreRising, IsHead, IsPlan, node_by, run_node, run_of, head_of, second_by};
 ghost use Rattle.line_blocks.specs.Ways.{HasMoves};
 
 use crate::drafting::{alone, draft_of};
 use crate::moves::moves_of;
-use crate::plan::{Run, address_of, head_of, is_head, is_plan, last_of, run_of};
+use crate::plan::{Run, address_of, head_of, is_head, is_plan, run_of};
 use cache_geom::Geometry;
 use path_model::{Graph, Node};
 use std::alloc::{AllocError, Global};
@@ -94,14 +94,6 @@ impl<'g> LineBlocks<'g> {
         ensures runs { AreRuns self.now }
     {
         head_of(&self.runs, run as usize)
-    }
-
-    // The last node of a run.
-    pub(crate) fn last(&self, run: u32) -> u32
-        ensures last { result ≡ last_of self.now.runs run }
-        ensures runs { AreRuns self.now }
-    {
-        last_of(&self.runs, run as usize)
     }
 
     // The number of moves from the first node of a run to its last one.

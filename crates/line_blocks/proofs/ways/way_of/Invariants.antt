@@ -3,4 +3,4 @@ use Rattle.line_blocks.proofs.Named.{IsNamed}
 use Rattle.line_blocks.proofs.ways.way_of.Given as goal
 
 abbrev pub invariant-loop-place : goal.invariant-loop-place
-invariant-loop-place l = IsNamed l.blocks (reverse (take l.place l.path)) l.steps l.letters.items
+invariant-loop-place l = IsNamed l.blocks (reverse (take l.place l.path)) l.steps
