@@ -7,7 +7,7 @@ use Rattle.std.proofs.lemmas.Option.{same_Some, slice_get-get_or}
 use Rattle.transition_spec.specs.Path.{IsPath}
 use Rattle.path_model.specs.declared.graph.Node.{Node}
 use Rattle.path_model.specs.Graph.{graph_step}
-use Rattle.path_trail.specs.Trail.{IsChain}
+use Rattle.path_trail.specs.Trail.{TrailEntry, IsChain}
 use Rattle.cache_spec.specs.declared.start.Start.{Start}
 use Rattle.lattice_fix.specs.declared.change.Change.{Change}
 use Rattle.lattice_fix.specs.Framework.{Framework}
@@ -88,6 +88,30 @@ module _ (view : View) (is : IsView view) (hits : Bool) (start : Start) (own : L
   attested_over known sound =
       record { is_view = is; known = known; ages = ages; sound = sound; are_led = led_over }
 
+module _ (view : View) (is : IsView view) (hits : Bool) (start : Start) (ages : List (List ℕ))
+    (sound : BoundPlaces view (kind_of hits) start ages) (block : ℕ) (known : block < length view.blocks) (n : ℕ)
+    (inside : n < length view.nodes) (fetches : fetch_at view.fetches n ≡ Some block) where
+  -- where a node fetches the block, the path of an entry that leads to a bound that shows something is a witness
+  pub led_witness : (trail : List TrailEntry) (bound number : ℕ)
+      → LeadsTo (exists_framework hits view start ages block) trail n bound number
+      → IsShown hits view.geometry.ways bound → (members : List ℕ) → IsChain trail (Some number) members
+      → IsPath (graph_step view.nodes) 0 members → IsWitness view start n hits members
+  led_witness trail bound number leads shown [] chain path = absurd path
+  led_witness trail bound number leads shown (m ∷ earlier) chain path =
+      let F : Framework ℕ = exists_framework hits view start ages block in
+      let here : m ≡ n = chain.0 ∙ leads.node in
+      let path_here : IsPath (graph_step view.nodes) 0 (n ∷ earlier) =
+      subst (λ (k : ℕ). IsPath (graph_step view.nodes) 0 (k ∷ earlier)) here path in
+      let moved : along F (n ∷ earlier) ≡ bound =
+      ap (λ (k : ℕ). along F (k ∷ earlier)) (sym here) ∙ leads.moved (m ∷ earlier) chain in
+      record {
+        earlier = earlier;
+        ends = ap (λ (k : ℕ). k ∷ earlier) here;
+        is_path = path_here;
+        fate = along_ends view is hits start ages sound block known n earlier inside fetches path_here
+            (subst (IsShown hits view.geometry.ways) (sym moved) shown);
+      }
+
 module _ (b : Bounded) (t : Retraced) (are : AreAttested b t) (n : ℕ)
     (fetches : fetch_at b.view.fetches n ≡ Some b.block) where
   abbrev F : Framework ℕ
@@ -116,18 +140,6 @@ module _ (b : Bounded) (t : Retraced) (are : AreAttested b t) (n : ℕ)
   pub attested_path : IsShown b.hits b.view.geometry.ways (age_at b.bounds n) → (members : List ℕ)
       → IsChain t.entries (Some attested_entry.number) members → IsPath (graph_step b.view.nodes) 0 members
       → IsWitness b.view b.start n b.hits members
-  attested_path shown [] chain path = absurd path
-  attested_path shown (m ∷ earlier) chain path =
-      let leads = attested_entry.leads in
-      let here : m ≡ n = chain.0 ∙ leads.node in
-      let path_here : IsPath (graph_step b.view.nodes) 0 (n ∷ earlier) =
-      subst (λ (k : ℕ). IsPath (graph_step b.view.nodes) 0 (k ∷ earlier)) here path in
-      let moved : along F (n ∷ earlier) ≡ age_at b.bounds n =
-      ap (λ (k : ℕ). along F (k ∷ earlier)) (sym here) ∙ leads.moved (m ∷ earlier) chain in
-      record {
-        earlier = earlier;
-        ends = ap (λ (k : ℕ). k ∷ earlier) here;
-        is_path = path_here;
-        fate = along_ends b.view are.is_view b.hits b.start are.ages are.sound b.block are.known n earlier
-            attested_inside fetches path_here (subst (IsShown b.hits b.view.geometry.ways) (sym moved) shown);
-      }
+  attested_path shown members chain path =
+      led_witness b.view are.is_view b.hits b.start are.ages are.sound b.block are.known n attested_inside fetches
+      t.entries (age_at b.bounds n) attested_entry.number attested_entry.leads shown members chain path

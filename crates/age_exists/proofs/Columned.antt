@@ -1,5 +1,5 @@
 -- The bounds of all local blocks, made block by block.
-use Rattle.std.proofs.Common.{◌≡◌, ℕ, ◌+◌, ◌<◌, Bool, true, false, List, [], ◌∷◌, ◌++◌, length, sym, ◌∙◌, subst, inl, inr, ap, arith}
+use Rattle.std.proofs.Common.{◌≡◌, ℕ, ◌+◌, ◌<◌, Bool, true, false, List, [], ◌∷◌, ◌++◌, length, sym, ◌∙◌, subst, inl, inr, arith}
 use Rattle.std.proofs.lemmas.Bool.{cases_lt}
 use Rattle.std.proofs.lemmas.List.{get_or_append_left, get_or_push, length_push}
 use Rattle.cache_spec.specs.declared.start.Start.{Start}
@@ -22,12 +22,6 @@ pub record AreFirst (view : View) (start : Start) (hits : Bool) (own : List ℕ)
   pub one_each : length columns ≡ count
   pub least : (local : ℕ) → local < count
       → IsLeast (framework_of (setting_with hits view start own local)) view.nodes (column_at columns local)
-
--- none at first
-pub columns_begin : (view : View) (start : Start) (hits : Bool) (own : List ℕ) (columns : List (List ℕ)) → columns ≡ []
-    → AreFirst view start hits own 0 columns
-columns_begin view start hits own columns none =
-    record { one_each = ap length none; least = λ local below. absurd (omega (arith, below)) }
 
 -- those of one block more
 pub columns_more : (view : View) (start : Start) (hits : Bool) (own : List ℕ) (count : ℕ) (columns next : List (List ℕ))

@@ -20,13 +20,13 @@ use Rattle.age_exists.specs.Retraced.{Retraced, last_at, entry_before, entry_of,
 use Rattle.age_exists.specs.Led.{LeadsTo, IsLed}
 
 -- members of a list that grows stay where they are
-get-earlier : {X : Type 0} (xs ys : List X) (k : ℕ) → k < length xs → slice_get (xs ++ ys) k ≡ slice_get xs k
+pub get-earlier : {X : Type 0} (xs ys : List X) (k : ℕ) → k < length xs → slice_get (xs ++ ys) k ≡ slice_get xs k
 get-earlier [] ys k inside = absurd (omega (arith, inside))
 get-earlier (x ∷ xs) ys zero inside = refl
 get-earlier (x ∷ xs) ys (suc k) inside = get-earlier xs ys k (omega (arith, inside))
 
 -- and the new one is the last
-get-last : {X : Type 0} (xs : List X) (y : X) → slice_get (xs ++ y ∷ []) (length xs) ≡ Some y
+pub get-last : {X : Type 0} (xs : List X) (y : X) → slice_get (xs ++ y ∷ []) (length xs) ≡ Some y
 get-last [] y = refl
 get-last (x ∷ xs) y = get-last xs y
 
@@ -42,7 +42,7 @@ module _ (nodes : List Node) (trail : List TrailEntry) (entry : TrailEntry) (is 
   Longer = trail ++ entry ∷ []
 
   -- the nodes of the entries, and what stands before them
-  old-node : (k : ℕ) → k < length trail → node_at Longer k ≡ node_at trail k
+  pub old-node : (k : ℕ) → k < length trail → node_at Longer k ≡ node_at trail k
   old-node k inside = ap node_of (get-earlier trail (entry ∷ []) k inside)
 
   old-earlier : (k : ℕ) → k < length trail → earlier_at Longer k ≡ earlier_at trail k
@@ -74,7 +74,7 @@ module _ (nodes : List Node) (trail : List TrailEntry) (entry : TrailEntry) (is 
   )
 
   -- with an entry that is led to there is still a trail
-  trail_more : LeadsOn nodes trail (length trail) entry.earlier entry.node → IsTrail nodes Longer
+  pub trail_more : LeadsOn nodes trail (length trail) entry.earlier entry.node → IsTrail nodes Longer
   trail_more leads number inside = elim (cases_lt number (length trail)) [
     | inl below ↦
         subst (λ (o : Option ℕ). LeadsOn nodes Longer number o (node_at Longer number)) (sym (old-earlier number below))
@@ -91,7 +91,7 @@ module _ (nodes : List Node) (trail : List TrailEntry) (entry : TrailEntry) (is 
 
   module _ {D : Type 0} (F : Framework D) where
     -- what led to something leads to it still
-    old-leads-to : (n : ℕ) (x : D) (number : ℕ) → LeadsTo F trail n x number → LeadsTo F Longer n x number
+    pub old-leads-to : (n : ℕ) (x : D) (number : ℕ) → LeadsTo F trail n x number → LeadsTo F Longer n x number
     old-leads-to n x number leads = record {
       inside = omega (arith, leads.inside, length_push trail entry);
       node = old-node number leads.inside ∙ leads.node;
@@ -100,7 +100,7 @@ module _ (nodes : List Node) (trail : List TrailEntry) (entry : TrailEntry) (is 
     }
 
     -- and the new entry leads to what is moved along its node and a chain of what stands before it
-    new-leads-to : (x : D) → LeadsOn nodes trail (length trail) entry.earlier entry.node
+    pub new-leads-to : (x : D) → LeadsOn nodes trail (length trail) entry.earlier entry.node
         → ((members : List ℕ) → IsChain trail entry.earlier members → along F (entry.node ∷ members) ≡ x)
         → LeadsTo F Longer entry.node x (length trail)
     new-leads-to x leads moves =
@@ -121,6 +121,22 @@ module _ (nodes : List Node) (trail : List TrailEntry) (entry : TrailEntry) (is 
             (before-smaller nodes trail (length trail) entry.node entry.earlier leads) rest in
             ap (λ (n : ℕ). along F (n ∷ members)) (chain.0 ∙ ap node_of read) ∙ moves members old
 
+module _ {D : Type 0} (F : Framework D) where
+  -- with no member before it, the start
+  pub start-moved : (trail : List TrailEntry) (node : ℕ) (x : D) → x ≡ F.start → (members : List ℕ)
+      → IsChain trail None members → along F (node ∷ members) ≡ x
+  start-moved trail node x is [] chain = sym is
+  start-moved trail node x is (m ∷ members) chain = absurd chain
+
+  -- after an entry that leads to y, what its node makes of y
+  pub transfer-moved : (trail : List TrailEntry) (node from number : ℕ) (y x : D) → LeadsTo F trail from y number
+      → x ≡ F.transfer from y → (members : List ℕ) → IsChain trail (Some number) members
+      → along F (node ∷ members) ≡ x
+  transfer-moved trail node from number y x leads is [] chain = absurd chain
+  transfer-moved trail node from number y x leads is (m ∷ members) chain =
+      ap (λ (n : ℕ). F.transfer n (along F (m ∷ members))) (chain.0 ∙ leads.node)
+      ∙ (ap (F.transfer from) (leads.moved (m ∷ members) chain) ∙ sym is)
+
 module _ {D : Type 0} (F : Framework D) (picks : (x y : D) → (F.join x y ≡ x) ⊎ (F.join x y ≡ y))
     (nodes : List Node) where
   -- a raise leaves what it brings
@@ -133,27 +149,12 @@ module _ {D : Type 0} (F : Framework D) (picks : (x y : D) → (F.join x y ≡ x
     leads : LeadsOn nodes trail (length trail) before node
     moves : (members : List ℕ) → IsChain trail before members → along F (node ∷ members) ≡ x
 
-  -- with no member before it, the start
-  start-moved : (trail : List TrailEntry) (node : ℕ) (x : D) → x ≡ F.start → (members : List ℕ)
-      → IsChain trail None members → along F (node ∷ members) ≡ x
-  start-moved trail node x is [] chain = sym is
-  start-moved trail node x is (m ∷ members) chain = absurd chain
-
-  -- after an entry that leads to y, what its node makes of y
-  transfer-moved : (trail : List TrailEntry) (node from number : ℕ) (y x : D) → LeadsTo F trail from y number
-      → x ≡ F.transfer from y → (members : List ℕ) → IsChain trail (Some number) members
-      → along F (node ∷ members) ≡ x
-  transfer-moved trail node from number y x leads is [] chain = absurd chain
-  transfer-moved trail node from number y x leads is (m ∷ members) chain =
-      ap (λ (n : ℕ). F.transfer n (along F (m ∷ members))) (chain.0 ∙ leads.node)
-      ∙ (ap (F.transfer from) (leads.moved (m ∷ members) chain) ∙ sym is)
-
   -- what a change brings is moved along its node and what stands before its entry
   change_continues : (held : List (Option D)) (t : Retraced) (node : ℕ) (from : Option ℕ) (x : D)
       → IsLed F nodes held t → Brings F nodes held node from x
       → Continues t.entries node x (entry_before t.last from)
   change_continues held t node None x led brings =
-      record { leads = brings.0; moves = start-moved t.entries node x brings.1 }
+      record { leads = brings.0; moves = start-moved F t.entries node x brings.1 }
   change_continues held t node (Some from) x led brings =
       let y : D = brings.1.0 in
       let found = led.found from y brings.1.1 in
@@ -163,7 +164,7 @@ module _ {D : Type 0} (F : Framework D) (picks : (x y : D) → (F.join x y ≡ x
       subst (λ (n : ℕ). IsSuccessor (graph_step nodes) n node) (sym leads.node) brings.0 in
       subst (Continues t.entries node x) (sym found.1) (record {
         leads = (leads.inside, edge);
-        moves = transfer-moved t.entries node from number y x leads brings.1.2;
+        moves = transfer-moved F t.entries node from number y x leads brings.1.2;
       })
 
   -- a change leaves all led to

@@ -5,4 +5,12 @@ pub mod Equations
 pub mod Bounded
 pub mod Columns
 pub mod Rows
+pub mod Those
 pub mod Unclear
+pub mod Firsts
+pub mod FirstSteps
+pub mod Fetchers
+pub mod FirstBounds
+pub mod Solving
+pub mod Spread
+pub mod Prepared

@@ -1,11 +1,10 @@
 -- Which fetches the numbers at hand leave unclear, node by node.
-use Rattle.std.specs.Prelude.{◌≡◌, ◌↔◌, ℕ, ◌<◌, Bool, true, false, not, ◌&&◌, ◌==◌, nat_lt, if◌then◌else◌, List, length, Option, Some, None, slice_index_or}
-use Rattle.std.specs.List.{Contains}
-use Rattle.std.specs.List.Sorted.{IsStrictlyIncreasing}
+use Rattle.std.specs.Prelude.{◌≡◌, ℕ, ◌<◌, Bool, true, false, not, ◌&&◌, ◌==◌, nat_lt, if◌then◌else◌, List, length, Option, Some, None, slice_index_or}
 use Rattle.focus_spec.specs.Younger.{fetch_at}
 use Rattle.set_view.specs.View.{View}
 use Rattle.age_spec.specs.Ages.{age_of, age_at}
 use Rattle.age_exists.specs.Columns.{column_at}
+use Rattle.age_exists.specs.Those.{AreThose}
 
 -- the ages by node and block, and the bounds by block and node
 pub record Numbers : Type 0 where
@@ -49,6 +48,5 @@ pub record AreMarks (view : View) (f : Numbers) (count : ℕ) (marks : List Bool
   pub complete : (n local : ℕ) → n < count → unclear_fetch view f n ≡ Some local → mark_at marks local ≡ true
 
 -- these are the places of the first marks, rising
-pub record AreMarked (marks : List Bool) (count : ℕ) (locals : List ℕ) : Type 0 where
-  pub rising : IsStrictlyIncreasing locals
-  pub members : (local : ℕ) → Contains locals local ↔ ((local < count) × (mark_at marks local ≡ true))
+abbrev pub AreMarked : List Bool → ℕ → List ℕ → Type 0
+AreMarked marks count locals = AreThose (λ local. mark_at marks local ≡ true) count locals

@@ -117,7 +117,8 @@ impl HitBounds {
 
     /// A way of a path that ends in a node, which fetches the set, and can hit there. `None` exactly where the bound
     /// of the fetched block is the number of ways. It solves the block again: for many nodes of one block take
-    /// `hit_bounds_of`. The error is out of memory, also where the solver made more than 4,294,967,295 changes.
+    /// `BlockSolver::hit_bounds`. The error is out of memory, also where the solver made more than 4,294,967,295
+    /// changes.
     pub fn way(&self, alloc: Global, view: &SetView, node: u32) -> Result<Option<Way>, AllocError>
         requires fetches { IsSome (fetch_at view.now.fetches node) }
         requires of_view { AreHitsOf view.now self.now }
@@ -144,7 +145,8 @@ impl MissBounds {
 
     /// A way of a path that ends in a node, which fetches the set, and can miss there. `None` exactly where the bound
     /// of the fetched block is below the number of ways. It solves the block again: for many nodes of one block take
-    /// `miss_bounds_of`. The error is out of memory, also where the solver made more than 4,294,967,295 changes.
+    /// `BlockSolver::miss_bounds`. The error is out of memory, also where the solver made more than 4,294,967,295
+    /// changes.
     pub fn way(&self, alloc: Global, view: &SetView, node: u32) -> Result<Option<Way>, AllocError>
         requires fetches { IsSome (fetch_at view.now.fetches node) }
         requires of_view { AreMissesOf view.now self.now }

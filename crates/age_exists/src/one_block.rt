@@ -4,16 +4,15 @@ ghost use Rattle.std.specs.List.{All};
 ghost use Rattle.lattice_fix.specs.Solution.{IsLeast};
 ghost use Rattle.focus_spec.specs.Fate.{NamesEnd};
 ghost use Rattle.focus_spec.specs.Younger.{fetch_at};
-ghost use Rattle.age_spec.specs.Ages.{AreMustAges, AreMayAges, AreRows, age_at};
-ghost use Rattle.age_spec.specs.Exists.{AreHitBounds, AreMissBounds};
+ghost use Rattle.age_spec.specs.Ages.{AreRows, age_at};
 ghost use Rattle.age_spec.specs.Settled.{IsShown};
 ghost use Rattle.age_spec.specs.Sound.{IsWitness};
 ghost use Rattle.age_exists.specs.Equations.{own_age, own_ages, framework_of, setting_with};
-ghost use Rattle.age_exists.specs.Bounded.{AreOwn, IsFoundOver};
+ghost use Rattle.age_exists.specs.Bounded.{AreOwn, AreAttested, IsFoundOver, bounded_with};
 ghost use Rattle.age_exists.specs.Retraced.{with_changes, no_entries};
 ghost use Rattle.age_exists.specs.Seen.{seen_as};
 
-use crate::retracing::{Steps, retrace};
+use crate::retracing::{Entries, Steps, retrace};
 use crate::system::BoundSystem;
 use age_must_may::Ages;
 use cache_spec::Start;
@@ -48,64 +47,31 @@ impl<'v, 'g> Model for BlockBounds<'v, 'g> {
         AreAttested (bounded_with b.view.now b.start b.block b.hits b.bounds.items) (seen_as b.steps) };
 }
 
-/// The exists-hit bounds of a local block, over the must ages of its view, for a set that starts so.
-///
-/// Some path that ends in a node, from some list that the set may start with, leaves the block at most at the place
-/// that its bound says (after Touzeau, Maïza, Monniaux and Reineke 2017; the equations are this project's own). A
-/// fetch of the block can hit where its bound is below the number of ways. The block is solved once here. The error
-/// is out of memory, also where the solver made more than 4,294,967,295 changes.
-pub fn hit_bounds_of<'v, 'g>(
-    alloc: Global,
-    view: &'v SetView<'g>,
-    must: &Ages,
-    start: Start,
-    block: u16,
-) -> Result<BlockBounds<'v, 'g>, AllocError>
-    requires must { AreMustAges view.now must.now }
-    requires block { block < length view.now.blocks }
-    ensures view { IfOk result (λ found. found.view ≡ view.now) }
-    ensures start { IfOk result (λ found. found.start ≡ start) }
-    ensures block { IfOk result (λ found. found.block ≡ block) }
-    ensures hits { IfOk result (λ found. found.hits ≡ true) }
-    ensures bounds { IfOk result (λ found. AreHitBounds view.now start must.now block found.bounds) }
-{
-    let _blocks = view.blocks();
-    let own = own_ages(alloc, view, must)?;
-    let found = solved(alloc, view, &own, true, start, block)?;
-    Ok(found)
-}
-
-/// The exists-miss bounds of a local block, over the may ages of its view, for a set that starts so.
-///
-/// Some path that ends in a node, from some list that the set may start with, leaves the block at least at the place
-/// that its bound says (after Touzeau, Maïza, Monniaux and Reineke 2017; the equations are this project's own). A
-/// fetch of the block can miss where its bound is the number of ways. The block is solved once here. The error is out
-/// of memory, also where the solver made more than 4,294,967,295 changes.
-pub fn miss_bounds_of<'v, 'g>(
-    alloc: Global,
-    view: &'v SetView<'g>,
-    may: &Ages,
-    start: Start,
-    block: u16,
-) -> Result<BlockBounds<'v, 'g>, AllocError>
-    requires may { AreMayAges view.now start may.now }
-    requires block { block < length view.now.blocks }
-    ensures view { IfOk result (λ found. found.view ≡ view.now) }
-    ensures start { IfOk result (λ found. found.start ≡ start) }
-    ensures block { IfOk result (λ found. found.block ≡ block) }
-    ensures hits { IfOk result (λ found. found.hits ≡ false) }
-    ensures bounds { IfOk result (λ found. AreMissBounds view.now may.now block found.bounds) }
-{
-    let _blocks = view.blocks();
-    let own = own_ages(alloc, view, may)?;
-    let found = solved(alloc, view, &own, false, start, block)?;
-    Ok(found)
-}
-
 impl<'v, 'g> BlockBounds<'v, 'g> {
+    /// Bounds that were found for a local block, each attested by the last entry of its node.
+    pub(crate) fn attested(
+        view: &'v SetView<'g>,
+        start: Start,
+        block: u16,
+        hits: bool,
+        found: FoundBounds,
+    ) -> Self
+        requires { AreAttested (bounded_with view.now start block hits found.bounds.items) (seen_as found.steps) }
+        ensures { result ≡ bounded_with view.now start block hits found.bounds.items }
+    {
+        BlockBounds {
+            view,
+            start,
+            block,
+            hits,
+            bounds: found.bounds,
+            steps: found.steps,
+        }
+    }
+
     /// The bound before a node: 0 to the number of ways. The node's number is below the number of nodes. Takes no
-    /// memory. Where the node fetches the block and the bound shows that it can hit, or can miss, some path attests this,
-    /// even if `path` isn't called.
+    /// memory. Where the node fetches the block and the bound shows that it can hit, or can miss, some path attests
+    /// this, even if `path` isn't called.
     pub fn bound(&self, node: u32) -> u32
         requires { node < length self.now.view.nodes }
         ensures bound { result ≡ age_at self.now.bounds node }
@@ -133,7 +99,10 @@ impl<'v, 'g> BlockBounds<'v, 'g> {
         let Some(entry) = self.steps.last[node as usize] else {
             unreachable!()
         };
-        let path = trace(alloc, view.graph(), &self.steps, entry)?;
+        let trail = Entries {
+            steps: &self.steps.entries,
+        };
+        let path = trace(alloc, view.graph(), &trail, entry)?;
         Ok(Some(path))
     }
 
@@ -180,14 +149,7 @@ pub(crate) fn solved<'v, 'g>(
 {
     let _blocks = view.blocks();
     let found = found_bounds(alloc, view, own, hits, start, block)?;
-    Ok(BlockBounds {
-        view,
-        start,
-        block,
-        hits,
-        bounds: found.bounds,
-        steps: found.steps,
-    })
+    Ok(BlockBounds::attested(view, start, block, hits, found))
 }
 
 // Whether a bound shows that some path can hit, or that some path can miss where `hits` is false.

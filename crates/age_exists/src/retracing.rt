@@ -25,17 +25,23 @@ pub(crate) struct Steps {
     pub last: Vec<Option<u32>>,
 }
 
-impl Trail for Steps {
+/// Steps as a trail: the entry with a number is the step there.
+#[derive(Clone, Copy)]
+pub(crate) struct Entries<'s> {
+    pub steps: &'s [Step],
+}
+
+impl<'s> Trail for Entries<'s> {
     ghost use Rattle.age_exists.specs.Seen.{entries_seen};
 
-    ghost entries = { λ steps. entries_seen steps.entries.items };
+    ghost entries = { λ trail. entries_seen trail.steps.now };
 
     fn node(&self, entry: u32) -> u32 {
-        self.entries[entry as usize].node
+        self.steps[entry as usize].node
     }
 
     fn earlier(&self, entry: u32) -> Option<u32> {
-        self.entries[entry as usize].earlier
+        self.steps[entry as usize].earlier
     }
 }
 
@@ -62,8 +68,8 @@ fn no_last(alloc: Global, count: usize) -> Result<Vec<Option<u32>>, AllocError>
     vec![in alloc; None; count]
 }
 
-// One change more.
-fn note(steps: &mut Steps, change: Change) -> Result<(), AllocError>
+/// One change more. The error is out of memory, also where there are 4,294,967,296 changes already.
+pub(crate) fn note(steps: &mut Steps, change: Change) -> Result<(), AllocError>
     requires { change.node < length steps.old.last.items }
     ensures { OnOk result (seen_as steps.new ≡ with_change (seen_as steps.old) change) }
 {

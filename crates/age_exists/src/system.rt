@@ -24,8 +24,8 @@ pub(crate) struct BoundSystem<'a, 'g> {
     pub block: u16,
 }
 
-// The bound at node 0.
-fn first_bound(hits: bool, start: Start, ways: u8) -> u8
+/// The bound at node 0.
+pub(crate) fn first_bound(hits: bool, start: Start, ways: u8) -> u8
     ensures { result ≡ first_bound hits start ways }
 {
     match (hits, start) {
@@ -43,8 +43,8 @@ fn grown(ways: u8, bound: u8) -> u8
     bound.saturating_add(1).min(ways)
 }
 
-// An exists-hit bound after the fetch of another block, which has this must age.
-fn hit_bound_after(ways: u8, must: u8, bound: u8) -> u8
+/// An exists-hit bound after the fetch of another block, which has this must age.
+pub(crate) fn hit_bound_after(ways: u8, must: u8, bound: u8) -> u8
     requires { ways ≤ 16 }
     ensures { result ≡ hit_bound_after ways must bound }
 {
@@ -112,8 +112,16 @@ impl<'a, 'g> BoundSystem<'a, 'g> {
         Some(block)
     }
 
-    // The bound after a node.
-    fn moved(&self, node: u32, bound: u8) -> u8
+    /// The bound at node 0.
+    pub(crate) fn first(&self) -> u8
+        ensures { result ≡ (framework_of (setting_with self.now.hits self.now.view.now self.now.start self.now.own.now
+            self.now.block)).start }
+    {
+        first_bound(self.hits, self.start, self.view.ways() as u8)
+    }
+
+    /// The bound after a node.
+    pub(crate) fn moved(&self, node: u32, bound: u8) -> u8
         ensures { result ≡ (framework_of (setting_with self.now.hits self.now.view.now self.now.start self.now.own.now
             self.now.block)).transfer node bound }
     {
@@ -154,8 +162,7 @@ impl<'a, 'g> Domain for BoundSystem<'a, 'g> {
     ghost framework = { framework_of };
 
     fn start(&mut self) -> Result<u8, AllocError> {
-        let ways = self.view.ways() as u8;
-        Ok(first_bound(self.hits, self.start, ways))
+        Ok(self.first())
     }
 
     fn transfer(&mut self, node: u32, bound: &u8) -> Result<u8, AllocError> {

@@ -1,10 +1,11 @@
 // Bounds on graphs whose numbers are found by hand.
+ghost use Rattle.std.specs.Prelude.{◌≡◌, ◌<◌, true, length, Some};
+ghost use Rattle.focus_spec.specs.Younger.{fetch_at};
 ghost use Rattle.age_spec.specs.Ages.{AreRows};
 ghost use Rattle.age_exists.specs.Columns.{HaveBounds};
 
-use crate::{
-    HitBounds, MissBounds, exists_hit, exists_miss, hit_bounds_of, miss_bounds_of, unclear,
-};
+use crate::first_paths::first_paths;
+use crate::{BlockSolver, HitBounds, MissBounds, exists_hit, exists_miss, unclear};
 use age_must_may::{Ages, may, must};
 use cache_geom::Geometry;
 use cache_spec::Start;
@@ -15,14 +16,14 @@ use std::alloc::{AllocError, Global};
 use std::process::Abort;
 use std::test::Fail;
 
-fn node(at: u32, first: Option<u32>, second: Option<u32>) -> Node {
+pub(crate) fn node(at: u32, first: Option<u32>, second: Option<u32>) -> Node {
     Node { at, first, second }
 }
 
 // With lines of 8 bytes and 16 sets, the blocks of set 0 are 0x2000, 0x2010 and 0x2020, with the numbers 0 to 2.
 // Block 0 is fetched by nodes 0 and 8. Nodes 3 and 5 are two arms that fetch blocks 1 and 2; then nodes 6 and 7 fetch
 // blocks 1 and 2, which a short cut from node 4 can pass by.
-fn arms(short_cut: Option<u32>) -> [Node; 9] {
+pub(crate) fn arms(short_cut: Option<u32>) -> [Node; 9] {
     [
         node(0x10000, Some(1), None),
         node(0x10008, Some(2), Some(3)),
@@ -37,7 +38,7 @@ fn arms(short_cut: Option<u32>) -> [Node; 9] {
 }
 
 // Block 0, then block 1 on one of two ways, then block 2, and block 0 again.
-fn detour() -> [Node; 6] {
+pub(crate) fn detour() -> [Node; 6] {
     [
         node(0x10000, Some(1), None),
         node(0x10008, Some(2), Some(3)),
@@ -49,7 +50,7 @@ fn detour() -> [Node; 6] {
 }
 
 // Three blocks, one after another.
-fn line() -> [Node; 3] {
+pub(crate) fn line() -> [Node; 3] {
     [
         node(0x10000, Some(1), None),
         node(0x10004, Some(2), None),
@@ -150,7 +151,9 @@ fn hit_path(
     assert!(rt; (block as usize) < seen.blocks().len());
     assert!(rt; seen.fetch(node) == Some(block));
     let must = must(alloc, seen)?;
-    hit_bounds_of(alloc, seen, &must, Start::Empty, block)?.path(alloc, node)
+    let may = may(alloc, seen, Start::Empty)?;
+    let solver = BlockSolver::new(alloc, seen, Start::Empty, &must, &may)?;
+    solver.hit_bounds(alloc, block)?.path(alloc, node)
 }
 
 // The path of a miss in a node that fetches a block, from the empty set.
@@ -164,8 +167,53 @@ fn miss_path(
     assert!(rt; (node as usize) < seen.graph().nodes().len());
     assert!(rt; (block as usize) < seen.blocks().len());
     assert!(rt; seen.fetch(node) == Some(block));
+    let must = must(alloc, seen)?;
     let may = may(alloc, seen, Start::Empty)?;
-    miss_bounds_of(alloc, seen, &may, Start::Empty, block)?.path(alloc, node)
+    let solver = BlockSolver::new(alloc, seen, Start::Empty, &must, &may)?;
+    solver.miss_bounds(alloc, block)?.path(alloc, node)
+}
+
+// Whether a node fetches a block.
+fn fetches(seen: &SetView, node: u32, block: u16) -> bool
+    requires { node < length seen.now.nodes }
+    ensures { result ≡ true → fetch_at seen.now.fetches node ≡ Some block }
+{
+    match seen.fetch(node) {
+        Some(other) => other == block,
+        None => false,
+    }
+}
+
+// The first path to a node that fetches a block, from the empty set, where the first paths to this node and to another
+// that fetches it attest that it can miss in both.
+fn first_missing_path(
+    rt: &impl Abort,
+    alloc: Global,
+    seen: &SetView,
+    block: u16,
+    other: u32,
+    node: u32,
+) -> Result<Option<Vec<u32>>, AllocError> {
+    assert!(rt; (node as usize) < seen.graph().nodes().len());
+    assert!(rt; (other as usize) < seen.graph().nodes().len());
+    assert!(rt; (block as usize) < seen.blocks().len());
+    assert!(rt; fetches(seen, node, block));
+    assert!(rt; fetches(seen, other, block));
+    let must = must(alloc, seen)?;
+    let may = may(alloc, seen, Start::Empty)?;
+    let solver = BlockSolver::new(alloc, seen, Start::Empty, &must, &may)?;
+    if !solver.miss_first(alloc, block, &[other, node])? {
+        return Ok(None);
+    }
+    Ok(Some(solver.first_path(alloc, node)?))
+}
+
+// The entries of the first paths, as the node before each node.
+fn earlier_nodes(alloc: Global, graph: &Graph) -> Result<Vec<Option<u32>>, AllocError> {
+    first_paths(alloc, graph)?
+        .iter()
+        .map(|step| step.earlier)
+        .collect(alloc)
 }
 
 #[test]
@@ -221,6 +269,72 @@ fn one_bound_alone_settles_nothing(rt: HostRuntime) -> Result<(), Fail> {
     let path = hit_path(&rt, alloc, &seen, 0, 8)?.expect(&rt, "a path that hits");
     assert_eq!(rt; path.as_slice(), [0, 1, 3, 4, 8].as_slice());
     assert!(rt; miss_path(&rt, alloc, &seen, 0, 8)?.is_none());
+    Ok(())
+}
+
+#[test]
+fn a_first_path_comes_from_the_least_node_that_leads_on(rt: HostRuntime) -> Result<(), Fail> {
+    let alloc = rt.alloc();
+    let graph = Graph::new(arms(Some(8)).to_vec(alloc)?).expect(&rt, "a graph");
+    let earlier = [
+        None,
+        Some(0),
+        Some(1),
+        Some(1),
+        Some(3),
+        Some(2),
+        Some(4),
+        Some(6),
+        Some(4),
+    ];
+    assert_eq!(rt;
+        earlier_nodes(alloc, &graph)?.as_slice(),
+        earlier.as_slice()
+    );
+    Ok(())
+}
+
+#[test]
+fn an_edge_back_is_on_no_first_path(rt: HostRuntime) -> Result<(), Fail> {
+    let alloc = rt.alloc();
+    let nodes = [
+        node(0x10000, Some(2), Some(1)),
+        node(0x10004, Some(0), Some(1)),
+        node(0x10008, Some(1), Some(0)),
+    ];
+    let graph = Graph::new(nodes.to_vec(alloc)?).expect(&rt, "a graph");
+    let earlier = [None, Some(0), Some(0)];
+    assert_eq!(rt;
+        earlier_nodes(alloc, &graph)?.as_slice(),
+        earlier.as_slice()
+    );
+    Ok(())
+}
+
+#[test]
+fn a_block_that_the_first_path_evicts_misses_again(rt: HostRuntime) -> Result<(), Fail> {
+    let alloc = rt.alloc();
+    let graph = Graph::new(arms(None).to_vec(alloc)?).expect(&rt, "a graph");
+    let geometry = Geometry::new(8, 16, 2).expect(&rt, "in range");
+    let seen = view(alloc, &graph, &geometry, 0)?;
+    let path = first_missing_path(&rt, alloc, &seen, 0, 0, 8)?.expect(&rt, "a path that misses");
+    assert_eq!(rt; path.as_slice(), [0, 1, 3, 4, 6, 7, 8].as_slice());
+    let path = first_missing_path(&rt, alloc, &seen, 0, 8, 0)?.expect(&rt, "a path that misses");
+    assert_eq!(rt; path.as_slice(), [0].as_slice());
+    Ok(())
+}
+
+#[test]
+fn a_first_path_that_hits_says_nothing_of_others(rt: HostRuntime) -> Result<(), Fail> {
+    let alloc = rt.alloc();
+    let graph = Graph::new(detour().to_vec(alloc)?).expect(&rt, "a graph");
+    let geometry = Geometry::new(8, 16, 2).expect(&rt, "in range");
+    let seen = view(alloc, &graph, &geometry, 0)?;
+    assert!(rt; first_missing_path(&rt, alloc, &seen, 0, 5, 5)?.is_none());
+    assert!(rt; first_missing_path(&rt, alloc, &seen, 0, 0, 5)?.is_none());
+    assert!(rt; first_missing_path(&rt, alloc, &seen, 0, 5, 0)?.is_none());
+    let path = miss_path(&rt, alloc, &seen, 0, 5)?.expect(&rt, "a path that misses");
+    assert_eq!(rt; path.as_slice(), [0, 1, 3, 4, 5].as_slice());
     Ok(())
 }
 

@@ -1,5 +1,5 @@
 -- Some of the nodes of a view, judged one after another.
-use Rattle.std.proofs.Common.{◌≡◌, ◌⊎◌, ℕ, ◌+◌, ◌<◌, inl, inr, List, [], ◌∷◌, ◌++◌, length, Option, Some, None, refl, sym, ap, subst, ◌∙◌, arith}
+use Rattle.std.proofs.Common.{◌≡◌, ◌⊎◌, ℕ, ◌+◌, ◌<◌, ◌≤◌, inl, inr, List, [], ◌∷◌, ◌++◌, length, Option, Some, None, refl, sym, ap, subst, ◌∙◌, arith}
 use Rattle.std.proofs.lemmas.Bool.{cases_eq, cases_lt}
 use Rattle.std.proofs.lemmas.List.{get_or_past}
 use Rattle.std.proofs.lemmas.Option.{none-some}
@@ -47,21 +47,29 @@ so_far_none view start kept Within addresses judged no_addresses none =
       have = λ a there. absurd (none_there a there);
     }))
 
--- one more node that isn't looked at
-pub so_far_passed : (view : View) (start : Start) (kept : Kept) (Within : ℕ → Type 0) (count : ℕ) (addresses : List ℕ)
-    (judged : List Judged) → AreSoFar view start kept Within count addresses judged
-    → (Within count → ⊥) → AreSoFar view start kept Within (count + 1) addresses judged
-so_far_passed view start kept Within count addresses judged are other = record {
-  below = λ one there. omega (arith, are.below one there);
+-- more nodes, none of which is looked at
+pub so_far_to : (view : View) (start : Start) (kept : Kept) (Within : ℕ → Type 0) (count next : ℕ) (addresses : List ℕ)
+    (judged : List Judged) → AreSoFar view start kept Within count addresses judged → count ≤ next
+    → ((n : ℕ) → count ≤ n → n < next → Within n → ⊥) → AreSoFar view start kept Within next addresses judged
+so_far_to view start kept Within count next addresses judged are more other = record {
+  below = λ one there. omega (arith, are.below one there, more);
   within = are.within;
   right = are.right;
-  all = λ n below is. elim (cases_eq count n) [
-    | inl last ↦ absurd (other (subst Within (sym last) is))
-    | inr before ↦ are.all n (omega (arith, below, before)) is
+  all = λ n below is. elim (cases_lt n count) [
+    | inl before ↦ are.all n before is
+    | inr past ↦ absurd (other n past below is)
   ];
   spared = are.spared;
   have = are.have;
 }
+
+-- one more node that isn't looked at
+pub so_far_passed : (view : View) (start : Start) (kept : Kept) (Within : ℕ → Type 0) (count : ℕ) (addresses : List ℕ)
+    (judged : List Judged) → AreSoFar view start kept Within count addresses judged
+    → (Within count → ⊥) → AreSoFar view start kept Within (count + 1) addresses judged
+so_far_passed view start kept Within count addresses judged are other =
+    so_far_to view start kept Within count (count + 1) addresses judged are (omega arith)
+    (λ n past below is. other (subst Within (omega (arith, past, below)) is))
 
 -- where paths are kept at the node, its address is added
 addresses_kept : (ends : Ends) (at : ℕ) (addresses : List ℕ) → HasPaths ends

@@ -1,6 +1,8 @@
 pub mod Counted
 pub mod Block
 pub mod ByAges
+pub mod Opened
+pub mod Listed
 pub mod Shown
 pub mod Joined
 pub mod Looked

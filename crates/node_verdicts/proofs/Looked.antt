@@ -1,5 +1,5 @@
 -- Blocks with open fetches, judged one after another.
-use Rattle.std.proofs.Common.{◌≡◌, ◌⊎◌, ℕ, zero, suc, ◌+◌, inl, inr, List, [], ◌∷◌, ◌++◌, Some, sym, ap, ◌∙◌, subst, arith}
+use Rattle.std.proofs.Common.{◌≡◌, ◌⊎◌, ℕ, zero, suc, ◌+◌, inl, inr, List, [], ◌∷◌, ◌++◌, length, Some, sym, ap, ◌∙◌, subst, arith}
 use Rattle.std.specs.Prelude.{◌↔◌, slice_get}
 use Rattle.std.specs.List.{Contains}
 use Rattle.std.proofs.lemmas.Bool.{cases_eq}
@@ -9,12 +9,12 @@ use Rattle.cache_spec.specs.declared.start.Start.{Start}
 use Rattle.node_spec.specs.declared.verdict.Kept.{Kept}
 use Rattle.set_view.specs.View.{View}
 use Rattle.age_spec.specs.Settled.{HasUnclear}
-use Rattle.node_verdicts.specs.Aged.{Aged, IsOpen, IsSettled}
+use Rattle.node_verdicts.specs.Aged.{Aged, AreAges, IsOpen, IsSettled}
 use Rattle.node_verdicts.specs.Found.{AreJobsOf, IsJobHere}
-use Rattle.node_verdicts.specs.Judged.{AreJudged}
+use Rattle.node_verdicts.specs.Judged.{AreJudged, IsFetchOf}
 use Rattle.node_verdicts.specs.declared.judged.Judged.{Judged}
 use Rattle.node_verdicts.proofs.Block.{none_there, fetches_one}
-use Rattle.node_verdicts.proofs.ByAges.{IsLookedAt, settled_or_open}
+use Rattle.node_verdicts.proofs.ByAges.{IsLookedAt, all_looked_at, looked_at_fetches, settled_or_open, unclear_open}
 use Rattle.node_verdicts.proofs.Joined.{judged_as, judged_both}
 
 -- an open fetch of one of the first blocks, or of the next one
@@ -69,6 +69,27 @@ looked_passed a kept count xs are none =
       | inl before ↦ before
       | inr last ↦ absurd (none n last)
     ])
+
+-- where no fetch is open, all nodes are settled
+pub judged_settled : (a : Aged) → AreAges a → (kept : Kept) (judged : List Judged)
+    → AreJudged a.view.nodes a.view.geometry a.start kept (IsSettled a) judged
+    → ((block n : ℕ) → IsOpen a block n → ⊥)
+    → AreJudged a.view.nodes a.view.geometry a.start kept (IsFetchOf a.view (length a.view.blocks)) judged
+judged_settled a is kept judged are none =
+    judged_as a.view.nodes a.view.geometry a.start kept (IsSettled a) (IsFetchOf a.view (length a.view.blocks)) judged
+    are (λ n settled. looked_at_fetches a is n (inl settled))
+    (λ n fetched. elim (all_looked_at a is n fetched) [
+      | inl settled ↦ settled
+      | inr (block, below, open_there) ↦ absurd (none block n open_there)
+    ])
+
+-- and no block is a job
+pub jobs_settled : (a : Aged) → AreAges a → (count : ℕ) (jobs : List ℕ) → jobs ≡ []
+    → ((block n : ℕ) → IsOpen a block n → ⊥) → AreJobsOf a.view a.start count jobs
+jobs_settled a is count jobs empty none number = (
+  λ there. absurd (none_there number (subst (λ (xs : List ℕ). Contains xs number) empty there)),
+  λ (local, below, job). absurd (none local job.1.node (unclear_open a is local job.1)),
+)
 
 -- no block is looked at
 pub jobs_none : (view : View) (start : Start) (jobs : List ℕ) → jobs ≡ [] → AreJobsOf view start 0 jobs

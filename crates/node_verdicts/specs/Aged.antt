@@ -4,7 +4,7 @@ use Rattle.cache_spec.specs.declared.start.Start.{Start}
 use Rattle.focus_spec.specs.Younger.{fetch_at}
 use Rattle.focus_spec.specs.Fate.{AllEnd}
 use Rattle.set_view.specs.View.{View, IsView}
-use Rattle.age_spec.specs.Ages.{AreMustAges, AreMayAges, age_of}
+use Rattle.age_spec.specs.Ages.{AreMustAges, AreMayAges, AreRows, age_of}
 use Rattle.node_verdicts.specs.declared.judged.Ends.{Ends}
 use Rattle.node_verdicts.specs.declared.judged.Ends.TheVariants.{Hits, Misses, Both}
 
@@ -19,7 +19,9 @@ pub record Aged : Type 0 where
 pub record AreAges (a : Aged) : Type 0 where
   pub is_view : IsView a.view
   pub must_ages : AreMustAges a.view a.must
+  pub must_rows : AreRows a.view a.must
   pub may_ages : AreMayAges a.view a.start a.may
+  pub may_rows : AreRows a.view a.may
 
 -- the node fetches the block, and its ages leave open whether it hits
 pub record IsOpen (a : Aged) (block n : ℕ) : Type 0 where

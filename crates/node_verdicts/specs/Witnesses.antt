@@ -1,76 +1,90 @@
 -- Where the paths to the open fetches of a block come from.
-use Rattle.std.specs.Prelude.{◌≡◌, ℕ, Bool, true, false, List, Some}
+use Rattle.std.specs.Prelude.{◌≡◌, ℕ, ◌<◌, Bool, true, false, List, length, Some}
+use Rattle.std.specs.List.{Contains}
 use Rattle.cache_spec.specs.declared.start.Start.{Start}
 use Rattle.focus_spec.specs.Younger.{fetch_at}
 use Rattle.set_view.specs.View.{View}
 use Rattle.age_spec.specs.Ages.{age_at}
-use Rattle.age_spec.specs.Exists.{AreHitBounds, AreMissBounds}
-use Rattle.age_spec.specs.Settled.{CanHitByBound, CanMissByBound, HasUnclear}
+use Rattle.age_spec.specs.Settled.{IsShown, HasUnclear}
 use Rattle.age_spec.specs.Sound.{IsWitness}
+use Rattle.age_exists.specs.Bounded.{Bounded}
+use Rattle.age_exists.specs.Solving.{Solving, MissesFirst}
+use Rattle.node_verdicts.specs.declared.witnesses.FirstMisses.{FirstMisses}
 use Rattle.node_verdicts.specs.declared.witnesses.BothBounds.{BothBounds}
 use Rattle.node_verdicts.specs.declared.witnesses.Witnesses.{Witnesses}
-use Rattle.node_verdicts.specs.declared.witnesses.Witnesses.TheVariants.{Bounds, Search}
+use Rattle.node_verdicts.specs.declared.witnesses.Witnesses.TheVariants.{Firsts, Bounds, Search}
 use Rattle.node_verdicts.specs.Aged.{Aged, IsOpen}
 
--- both are bounds of one block, the first of hits and the second of misses
-pub record AreBoth (bounds : BothBounds) : Type 0 where
-  pub hit : bounds.hit.hits ≡ true
-  pub miss : bounds.miss.hits ≡ false
-  pub view : bounds.miss.view ≡ bounds.hit.view
-  pub start : bounds.miss.start ≡ bounds.hit.start
-  pub block : bounds.miss.block ≡ bounds.hit.block
-
--- they are those of a block over these ages
-pub record AreBothOf (a : Aged) (block : ℕ) (bounds : BothBounds) : Type 0 where
-  pub both : AreBoth bounds
-  pub view : bounds.hit.view ≡ a.view
-  pub start : bounds.hit.start ≡ a.start
-  pub block_is : bounds.hit.block ≡ block
-  pub hit : AreHitBounds a.view a.start a.must block bounds.hit.bounds
-  pub miss : AreMissBounds a.view a.may block bounds.miss.bounds
-
--- both bounds show a path at the node
-abbrev pub AreShown : BothBounds → ℕ → Type 0
-AreShown bounds n = CanHitByBound bounds.hit.view.geometry.ways (age_at bounds.hit.bounds n)
-    × CanMissByBound bounds.hit.view.geometry.ways (age_at bounds.miss.bounds n)
+-- the view and the ages that a solver has
+abbrev pub aged_of : Solving → Aged
+aged_of s = record { view = s.view; start = s.start; must = s.must; may = s.may }
 
 -- some path to the node can hit there, or miss where `hits` is false
 abbrev pub HasWitness : View → Start → ℕ → Bool → Type 0
 HasWitness view start n hits = (members : List ℕ) × IsWitness view start n hits members
 
--- the node fetches the block, and there are paths that both bounds show
+-- the bound before a node shows a path
+abbrev pub IsBoundShown : Bounded → ℕ → Type 0
+IsBoundShown b n = IsShown b.hits b.view.geometry.ways (age_at b.bounds n)
+
+-- the nodes are some that fetch the block
+abbrev pub AreFetches : Bounded → List ℕ → Type 0
+AreFetches b nodes = (n : ℕ) → Contains nodes n
+    → (n < length b.view.nodes) × (fetch_at b.view.fetches n ≡ Some b.block)
+
+-- the node fetches the block, and there is a path that its bound shows
+pub record IsShownAt (b : Bounded) (n : ℕ) : Type 0 where
+  pub fetches : fetch_at b.view.fetches n ≡ Some b.block
+  pub shown : IsBoundShown b n
+  pub some : HasWitness b.view b.start n b.hits
+
+-- the same at each of the nodes
+abbrev pub AreAllShown : Bounded → List ℕ → Type 0
+AreAllShown b nodes = (n : ℕ) → Contains nodes n → IsShownAt b n
+
+-- the bound before one of them shows no path
+abbrev pub IsSomeNotShown : Bounded → List ℕ → Type 0
+IsSomeNotShown b nodes = (n : ℕ) × Contains nodes n × (IsBoundShown b n → ⊥)
+
+-- the bounds show a path to a hit at the node, and the first path to it can miss there
+pub record IsShownFirst (firsts : FirstMisses) (n : ℕ) : Type 0 where
+  pub hits : firsts.hit.hits ≡ true
+  pub view : firsts.solver.now.view ≡ firsts.hit.view
+  pub start : firsts.solver.now.start ≡ firsts.hit.start
+  pub hit : IsShownAt firsts.hit n
+  pub miss : MissesFirst firsts.solver.now n
+
+-- the bounds show a path to a hit at the node, and one to a miss
 pub record AreShownAt (bounds : BothBounds) (n : ℕ) : Type 0 where
-  pub both : AreBoth bounds
-  pub fetches : fetch_at bounds.hit.view.fetches n ≡ Some bounds.hit.block
-  pub shown : AreShown bounds n
-  pub hit : HasWitness bounds.hit.view bounds.hit.start n true
-  pub miss : HasWitness bounds.hit.view bounds.hit.start n false
-
--- the same of each open fetch of the block
-abbrev pub AreAllShown : Aged → ℕ → BothBounds → Type 0
-AreAllShown a block bounds = (n : ℕ) → IsOpen a block n → AreShownAt bounds n
-
--- not both are shown at one of them
-abbrev pub IsSomeUnclear : Aged → ℕ → BothBounds → Type 0
-IsSomeUnclear a block bounds = (n : ℕ) × IsOpen a block n × (AreShown bounds n → ⊥)
+  pub hits : bounds.hit.hits ≡ true
+  pub misses : bounds.miss.hits ≡ false
+  pub view : bounds.miss.view ≡ bounds.hit.view
+  pub start : bounds.miss.start ≡ bounds.hit.start
+  pub hit : IsShownAt bounds.hit n
+  pub miss : IsShownAt bounds.miss n
 
 -- the view whose paths they are
 abbrev pub view_of : Witnesses → View
+view_of (Firsts firsts) = firsts.hit.view
 view_of (Bounds bounds) = bounds.hit.view
 view_of (Search found) = found.view
 
 -- and what its set may hold at first
 abbrev pub start_of : Witnesses → Start
+start_of (Firsts firsts) = firsts.hit.start
 start_of (Bounds bounds) = bounds.hit.start
 start_of (Search found) = found.start
 
--- it is known what the paths can do that end in a node: the bounds show both, or the block that it fetches was searched
+-- it is known what the paths can do that end in a node: paths of both kinds are shown, or the block that it fetches was
+-- searched
 abbrev pub IsKnownAt : Witnesses → ℕ → Type 0
+IsKnownAt (Firsts firsts) n = IsShownFirst firsts n
 IsKnownAt (Bounds bounds) n = AreShownAt bounds n
 IsKnownAt (Search found) n = fetch_at found.view.fetches n ≡ Some found.block
 
 -- a block is searched exactly where it has an unclear fetch
 abbrev pub IsSearched : Aged → ℕ → Witnesses → Type 0
+IsSearched a block (Firsts firsts) = HasUnclear a.view a.start block → ⊥
 IsSearched a block (Bounds bounds) = HasUnclear a.view a.start block → ⊥
 IsSearched a block (Search found) = HasUnclear a.view a.start block
 

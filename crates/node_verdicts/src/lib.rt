@@ -9,10 +9,12 @@
 #![tactic(auto)]
 
 mod aged;
+mod bounds;
 mod judged;
 mod lift;
 mod noting;
 mod one_set;
+mod open_fetches;
 mod ranges;
 #[cfg(test)]
 mod tests;

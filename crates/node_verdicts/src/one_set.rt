@@ -7,12 +7,15 @@ ghost use Rattle.path_model.specs.Graph.{address_of, addresses_of};
 ghost use Rattle.set_view.specs.View.{IsFault, IsView};
 ghost use Rattle.node_verdicts.specs.Judged.{AreJudged, IsFetcher, IsFetchOf, addresses_with};
 ghost use Rattle.node_verdicts.specs.Aged.{IsOpen, IsSettled};
-ghost use Rattle.node_verdicts.specs.Witnesses.{AreWitnesses};
+ghost use Rattle.node_verdicts.specs.Open.{AreOpen, AreOpenOf};
+ghost use Rattle.node_verdicts.specs.Witnesses.{AreWitnesses, aged_of};
 ghost use Rattle.node_verdicts.specs.Found.{AreJobsWithin, AreJobsOf, IsJobHere};
 
 use crate::aged::SetAges;
 use crate::judged::{Ends, Found, Judged};
+use crate::open_fetches::OpenFetches;
 use crate::witnesses::{Witnesses, ends_at, find_witnesses};
+use age_exists::BlockSolver;
 use cache_geom::Geometry;
 use node_spec::Kept;
 use path_model::{Graph, Start};
@@ -50,35 +53,48 @@ fn judge_view(alloc: Global, view: &SetView, start: Start, kept: Kept) -> Result
     ensures jobs { IfOk result (λ found. AreJobsOf view.now start (length view.now.blocks) found.jobs.items) }
 {
     let ages = SetAges::of(alloc, view, start)?;
-    let flags = open_blocks(alloc, &ages)?;
-    judge_blocks(alloc, &ages, kept, &flags)
+    let fetches = OpenFetches::of(alloc, &ages)?;
+    judge_aged(alloc, &ages, &fetches, kept)
 }
 
-// Whether the ages leave a fetch of each block open.
-fn open_blocks(alloc: Global, ages: &SetAges) -> Result<Vec<bool>, AllocError>
-    ensures one_each { IfOk result (λ flags. length flags.items ≡ length ages.now.view.blocks) }
-    ensures all { IfOk result (λ flags. (block n : ℕ) → IsOpen ages.now block n
-        → slice_index_or flags.items block false ≡ true) }
+// What the ages settle, and what they leave open.
+fn judge_aged(
+    alloc: Global,
+    ages: &SetAges,
+    fetches: &OpenFetches,
+    kept: Kept,
+) -> Result<Found, AllocError>
+    requires { AreOpen ages.now fetches.now }
+    ensures judged { IfOk result (λ found. AreJudged ages.now.view.nodes ages.now.view.geometry ages.now.start kept
+        (IsFetchOf ages.now.view (length ages.now.view.blocks)) found.judged.items) }
+    ensures jobs { IfOk result (λ found.
+        AreJobsOf ages.now.view ages.now.start (length ages.now.view.blocks) found.jobs.items) }
 {
-    let blocks = ages.view.blocks();
-    let mut flags = vec![in alloc; false; blocks.len()]?;
-    for node in 0..ages.view.graph().nodes().len() as u32 {
-        if let Some(block) = ages.open_at(node) {
-            flags[block as usize] = true;
-        }
+    let view = ages.view;
+    let settled = judge_settled(alloc, ages)?;
+    if fetches.are_none() {
+        return Ok(Found {
+            judged: settled,
+            jobs: Vec::new(alloc),
+        });
     }
-    Ok(flags)
+    let solver = BlockSolver::new(alloc, view, ages.start, &ages.must, &ages.may)?;
+    judge_blocks(alloc, ages, &solver, fetches, kept, settled)
 }
 
-// What the ages settle, and then each block with a fetch that they leave open.
+// What was judged before, and each block with a fetch that the ages leave open.
 fn judge_blocks(
     alloc: Global,
     ages: &SetAges,
+    solver: &BlockSolver,
+    fetches: &OpenFetches,
     kept: Kept,
-    flags: &[bool],
+    settled: Vec<Judged>,
 ) -> Result<Found, AllocError>
-    requires one_each { length flags.now ≡ length ages.now.view.blocks }
-    requires all { (block n : ℕ) → IsOpen ages.now block n → slice_index_or flags.now block false ≡ true }
+    requires solver { aged_of solver.now ≡ ages.now }
+    requires fetches { AreOpen ages.now fetches.now }
+    requires settled { AreJudged ages.now.view.nodes ages.now.view.geometry ages.now.start kept
+        (IsSettled ages.now) settled.items }
     ensures judged { IfOk result (λ found. AreJudged ages.now.view.nodes ages.now.view.geometry ages.now.start kept
         (IsFetchOf ages.now.view (length ages.now.view.blocks)) found.judged.items) }
     ensures jobs { IfOk result (λ found.
@@ -86,12 +102,13 @@ fn judge_blocks(
 {
     let blocks = ages.view.blocks();
     let mut found = Found {
-        judged: judge_settled(alloc, ages)?,
+        judged: settled,
         jobs: Vec::new(alloc),
     };
     for block in 0..blocks.len() as u16 {
-        if flags[block as usize] {
-            found.append(judge_block(alloc, ages, block, kept)?)?;
+        let nodes = fetches.of_block(block);
+        if !nodes.is_empty() {
+            found.append(judge_block(alloc, ages, solver, block, nodes, kept)?)?;
         }
     }
     Ok(found)
@@ -111,17 +128,26 @@ fn judge_settled(alloc: Global, ages: &SetAges) -> Result<Vec<Judged>, AllocErro
     Ok(judged)
 }
 
-// The same of each node whose fetch of the block the ages leave open.
-fn judge_block(alloc: Global, ages: &SetAges, block: u16, kept: Kept) -> Result<Found, AllocError>
-    requires { block < length ages.now.view.blocks }
+// The same of each node whose fetch of the block the ages leave open: these nodes.
+fn judge_block(
+    alloc: Global,
+    ages: &SetAges,
+    solver: &BlockSolver,
+    block: u16,
+    nodes: &[u32],
+    kept: Kept,
+) -> Result<Found, AllocError>
+    requires block { block < length ages.now.view.blocks }
+    requires solver { aged_of solver.now ≡ ages.now }
+    requires nodes { AreOpenOf ages.now block nodes.now }
     ensures judged { IfOk result (λ found. AreJudged ages.now.view.nodes ages.now.view.geometry ages.now.start kept
         (IsOpen ages.now block) found.judged.items) }
     ensures jobs { IfOk result (λ found. (number : ℕ) → Contains found.jobs.items number
         ↔ IsJobHere ages.now.view ages.now.start block number) }
 {
-    let witnesses = find_witnesses(alloc, ages, block)?;
+    let witnesses = find_witnesses(alloc, ages, solver, block, nodes)?;
     Ok(Found {
-        judged: judge_open(alloc, ages, block, &witnesses, kept)?,
+        judged: judge_open(alloc, ages, block, nodes, &witnesses, kept)?,
         jobs: jobs_of(alloc, ages, block, &witnesses)?,
     })
 }
@@ -140,32 +166,32 @@ fn jobs_of(
 {
     let mut jobs = Vec::new(alloc);
     match witnesses {
-        Witnesses::Bounds(_) => {}
+        Witnesses::Firsts(_) | Witnesses::Bounds(_) => {}
         Witnesses::Search(_) => jobs.push(ages.view.blocks()[block as usize])?,
     }
     Ok(jobs)
 }
 
-// What the paths can do that end in each node whose fetch of the block is open.
+// What the paths can do that end in each node whose fetch of the block is open: these nodes.
 fn judge_open(
     alloc: Global,
     ages: &SetAges,
     block: u16,
+    nodes: &[u32],
     witnesses: &Witnesses,
     kept: Kept,
 ) -> Result<Vec<Judged>, AllocError>
-    requires { AreWitnesses ages.now block witnesses.now }
+    requires nodes { AreOpenOf ages.now block nodes.now }
+    requires witnesses { AreWitnesses ages.now block witnesses.now }
     ensures { IfOk result (λ judged. AreJudged ages.now.view.nodes ages.now.view.geometry ages.now.start kept
         (IsOpen ages.now block) judged.items) }
 {
     let mut addresses = Vec::new(alloc);
     let mut judged = Vec::new(alloc);
-    for node in 0..ages.view.graph().nodes().len() as u32 {
-        if ages.open_at(node) == Some(block) {
-            let at = address_of(ages.view, node);
-            let ends = ends_at(alloc, witnesses, node, wants(kept, &addresses, at))?;
-            add(&mut addresses, &mut judged, at, Judged { node, ends })?;
-        }
+    for &node in nodes {
+        let at = address_of(ages.view, node);
+        let ends = ends_at(alloc, witnesses, node, wants(kept, &addresses, at))?;
+        add(&mut addresses, &mut judged, at, Judged { node, ends })?;
     }
     Ok(judged)
 }

@@ -18,7 +18,7 @@ use std::alloc::Global;
 
 /// The number of parts into which the sets of a graph are divided, each with a smaller graph. More parts make more
 /// graphs out of one, fewer parts a longer way back to the whole graph.
-const PARTS: u32 = 16;
+const PARTS: u32 = 8;
 
 /// Sets, from the first of them to the last.
 #[derive(Clone, Copy)]
@@ -104,7 +104,7 @@ fn judge_span(
     Ok(found)
 }
 
-/// The end of the part of these sets that begins at `low`: a sixteenth of them, or what is left.
+/// The end of the part of these sets that begins at `low`: an eighth of them, or what is left.
 pub(crate) fn part_end(low: u32, first: u32, last: u32) -> u32
     requires first { first ≤ last }
     requires low { low ≤ last }

@@ -1,19 +1,26 @@
 // How it is known what the paths can do that end in the open fetches of a block.
-ghost use Rattle.std.specs.Prelude.{◌≡◌, ◌<◌, false, true, not, length, reverse, Some, IfOk};
+ghost use Rattle.std.specs.Prelude.{◌≡◌, ◌<◌, not, length, reverse, Some, IfOk};
 ghost use Rattle.focus_spec.specs.Younger.{fetch_at};
 ghost use Rattle.focus_spec.specs.Fate.{AllEnd};
 ghost use Rattle.focus_plain.specs.Judged.{IsPathTo};
-ghost use Rattle.age_spec.specs.Ages.{age_at};
-ghost use Rattle.age_spec.specs.Settled.{IsShown};
-ghost use Rattle.age_spec.specs.Sound.{IsWitness};
+ghost use Rattle.age_spec.specs.Settled.{HasUnclear};
 ghost use Rattle.node_verdicts.specs.Judged.{IsEnds, IsSpared};
-ghost use Rattle.node_verdicts.specs.Witnesses.{AreBoth, AreBothOf, AreShown, AreShownAt, AreAllShown, IsSomeUnclear, AreWitnesses, IsKnownAt, view_of, start_of};
+ghost use Rattle.node_verdicts.specs.Open.{AreOpenOf};
+ghost use Rattle.node_verdicts.specs.Witnesses.{aged_of, IsShownFirst, AreShownAt, AreWitnesses, IsKnownAt, view_of, start_of};
 
 use crate::aged::SetAges;
+use crate::bounds::{are_shown, shown_path};
 use crate::judged::{Ends, Paths};
-use age_exists::{BlockBounds, hit_bounds_of, miss_bounds_of};
+use age_exists::{BlockBounds, BlockSolver};
 use focus_plain::{Classification, Judgement, judge};
 use std::alloc::{AllocError, Global};
+
+/// The exists-hit bounds of a block, and the solver with the first paths to the nodes.
+#[derive(Drop)]
+pub(crate) struct FirstMisses<'s, 'v, 'g> {
+    hit: BlockBounds<'v, 'g>,
+    solver: &'s BlockSolver<'v, 'g>,
+}
 
 /// Exists-hit and exists-miss bounds of a block.
 #[derive(Drop)]
@@ -24,70 +31,58 @@ pub(crate) struct BothBounds<'v, 'g> {
 
 /// Where the paths to the open fetches of a block come from.
 #[derive(Drop)]
-pub(crate) enum Witnesses<'v, 'g> {
-    /// The bounds, which have a path to a hit and one to a miss for each of the fetches.
+pub(crate) enum Witnesses<'s, 'v, 'g> {
+    /// The exists-hit bounds have a path to a hit for each of the fetches, and the first path to each of them can miss.
+    Firsts(FirstMisses<'s, 'v, 'g>),
+    /// The bounds have a path to a hit and one to a miss for each of the fetches.
     Bounds(BothBounds<'v, 'g>),
     /// A search, since the bounds leave one of the fetches unclear.
     Search(Judgement<'v, 'g>),
 }
 
-/// How it is known what the paths can do that end in the open fetches of a block.
-pub(crate) fn find_witnesses<'v, 'g>(
+/// How it is known what the paths can do that end in the open fetches of a block, which are given.
+///
+/// The exists-miss bounds are found over the whole graph, so they are asked last: a fetch that isn't shown to hit is
+/// unclear already, and mostly the first paths miss.
+pub(crate) fn find_witnesses<'s, 'v, 'g>(
     alloc: Global,
     ages: &SetAges<'v, 'g>,
+    solver: &'s BlockSolver<'v, 'g>,
     block: u16,
-) -> Result<Witnesses<'v, 'g>, AllocError>
-    requires { block < length ages.now.view.blocks }
+    nodes: &[u32],
+) -> Result<Witnesses<'s, 'v, 'g>, AllocError>
+    requires block { block < length ages.now.view.blocks }
+    requires solver { aged_of solver.now ≡ ages.now }
+    requires nodes { AreOpenOf ages.now block nodes.now }
     ensures { IfOk result (AreWitnesses ages.now block) }
 {
-    let view = ages.view;
-    let bounds = both_bounds(alloc, ages, block)?;
-    if are_all_shown(ages, block, &bounds) {
-        return Ok(Witnesses::Bounds(bounds));
+    let ways = ages.view.ways();
+    let hit = solver.hit_bounds(alloc, block)?;
+    if !are_shown(&hit, true, ways, nodes) {
+        return searched(alloc, ages, block);
     }
-    let found = judge(alloc, view, block, ages.start)?;
-    Ok(Witnesses::Search(found))
+    if solver.miss_first(alloc, block, nodes)? {
+        return Ok(Witnesses::Firsts(FirstMisses { hit, solver }));
+    }
+    let miss = solver.miss_bounds(alloc, block)?;
+    if !are_shown(&miss, false, ways, nodes) {
+        return searched(alloc, ages, block);
+    }
+    Ok(Witnesses::Bounds(BothBounds { hit, miss }))
 }
 
-// The bounds of a block.
-fn both_bounds<'v, 'g>(
+// The search of a block that the bounds leave unclear.
+fn searched<'s, 'v, 'g>(
     alloc: Global,
     ages: &SetAges<'v, 'g>,
     block: u16,
-) -> Result<BothBounds<'v, 'g>, AllocError>
-    requires { block < length ages.now.view.blocks }
-    ensures { IfOk result (AreBothOf ages.now block) }
+) -> Result<Witnesses<'s, 'v, 'g>, AllocError>
+    requires block { block < length ages.now.view.blocks }
+    requires unclear { HasUnclear ages.now.view ages.now.start block }
+    ensures { IfOk result (AreWitnesses ages.now block) }
 {
-    let hit = hit_bounds_of(alloc, ages.view, &ages.must, ages.start, block)?;
-    let miss = miss_bounds_of(alloc, ages.view, &ages.may, ages.start, block)?;
-    Ok(BothBounds { hit, miss })
-}
-
-// Whether the bounds show both paths for each open fetch of the block.
-fn are_all_shown(ages: &SetAges, block: u16, bounds: &BothBounds) -> bool
-    requires { AreBothOf ages.now block bounds.now }
-    ensures all { result ≡ true → AreAllShown ages.now block bounds.now }
-    ensures some { result ≡ false → IsSomeUnclear ages.now block bounds.now }
-{
-    let ways = ages.view.ways();
-    for node in 0..ages.view.graph().nodes().len() as u32 {
-        if ages.open_at(node) == Some(block) && !are_shown(bounds, ways, node) {
-            return false;
-        }
-    }
-    true
-}
-
-// Whether both bounds show a path at a node, which fetches the block.
-fn are_shown(bounds: &BothBounds, ways: u32, node: u32) -> bool
-    requires both { AreBoth bounds.now }
-    requires ways { ways ≡ bounds.now.hit.view.geometry.ways }
-    requires inside { node < length bounds.now.hit.view.nodes }
-    requires fetches { fetch_at bounds.now.hit.view.fetches node ≡ Some bounds.now.hit.block }
-    ensures shown { result ≡ true → AreShownAt bounds.now node }
-    ensures not_shown { result ≡ false → AreShown bounds.now node → ⊥ }
-{
-    bounds.hit.bound(node) < ways && bounds.miss.bound(node) == ways
+    let found = judge(alloc, ages.view, block, ages.start)?;
+    Ok(Witnesses::Search(found))
 }
 
 /// What the paths can do that end in a node, whose fetch of the block is open, with paths of both kinds if they are
@@ -104,26 +99,52 @@ pub(crate) fn ends_at(
     ensures spared { IfOk result (IsSpared wanted) }
 {
     match witnesses {
+        Witnesses::Firsts(firsts) => first_ends(alloc, firsts, node, wanted),
+        Witnesses::Bounds(bounds) => shown_ends(alloc, bounds, node, wanted),
         Witnesses::Search(found) => searched_ends(alloc, found, node, wanted),
-        Witnesses::Bounds(bounds) if wanted => Ok(Ends::Both(Some(Paths {
-            hit: shown_path(alloc, &bounds.hit, node)?,
-            miss: shown_path(alloc, &bounds.miss, node)?,
-        }))),
-        Witnesses::Bounds(_) => Ok(Ends::Both(None)),
     }
 }
 
-// The path that a bound shows.
-fn shown_path(alloc: Global, bounds: &BlockBounds, node: u32) -> Result<Vec<u32>, AllocError>
-    requires fetches { fetch_at bounds.now.view.fetches node ≡ Some bounds.now.block }
-    requires shown { IsShown bounds.now.hits bounds.now.view.geometry.ways (age_at bounds.now.bounds node) }
-    ensures { IfOk result (λ path.
-        IsWitness bounds.now.view bounds.now.start node bounds.now.hits (reverse path.items)) }
+// The same where the first path misses.
+fn first_ends(
+    alloc: Global,
+    firsts: &FirstMisses,
+    node: u32,
+    wanted: bool,
+) -> Result<Ends, AllocError>
+    requires { IsShownFirst firsts.now node }
+    ensures ends { IfOk result
+        (IsEnds firsts.now.hit.view.nodes firsts.now.hit.view.geometry firsts.now.hit.start node) }
+    ensures spared { IfOk result (IsSpared wanted) }
 {
-    match bounds.path(alloc, node)? {
-        Some(path) => Ok(path),
-        None => unreachable!(),
+    if !wanted {
+        return Ok(Ends::Both(None));
     }
+    Ok(Ends::Both(Some(Paths {
+        hit: shown_path(alloc, &firsts.hit, node)?,
+        miss: firsts.solver.first_path(alloc, node)?,
+    })))
+}
+
+// The same where both bounds show a path.
+fn shown_ends(
+    alloc: Global,
+    bounds: &BothBounds,
+    node: u32,
+    wanted: bool,
+) -> Result<Ends, AllocError>
+    requires { AreShownAt bounds.now node }
+    ensures ends { IfOk result
+        (IsEnds bounds.now.hit.view.nodes bounds.now.hit.view.geometry bounds.now.hit.start node) }
+    ensures spared { IfOk result (IsSpared wanted) }
+{
+    if !wanted {
+        return Ok(Ends::Both(None));
+    }
+    Ok(Ends::Both(Some(Paths {
+        hit: shown_path(alloc, &bounds.hit, node)?,
+        miss: shown_path(alloc, &bounds.miss, node)?,
+    })))
 }
 
 // What a search has found of a node that fetches the block.

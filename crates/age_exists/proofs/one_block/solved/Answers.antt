@@ -2,8 +2,8 @@ use Rattle.age_exists.specs.Seen.{seen_as}
 use Rattle.age_exists.proofs.Attests.{attested_over}
 use Rattle.age_exists.proofs.one_block.solved.Goals as goal
 
-pub invariant_of-result : goal.invariant_of-result
-invariant_of-result c =
+pub attested-requires : goal.attested-requires
+attested-requires c =
     let own = c.requires.own in
     let found = c.in_ok-found.found in
     attested_over c.args.view.now c.blocks-blocks.ensures.view c.args.hits c.args.start c.args.own.now own.ages

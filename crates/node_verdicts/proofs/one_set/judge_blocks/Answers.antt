@@ -1,19 +1,29 @@
-use Rattle.std.proofs.Common.{◌≡◌, ℕ, ◌+◌, length, true, false, sym, ap, ◌∙◌, subst, arith}
+use Rattle.std.proofs.Common.{◌≡◌, ℕ, ◌+◌, List, length, sym, ap, ◌∙◌, subst, arith}
+use Rattle.std.proofs.lemmas.Bool.{eqb-true}
 use Rattle.node_verdicts.specs.Aged.{Aged, AreAges, IsOpen}
 use Rattle.node_verdicts.specs.Found.{AreJobsOf}
 use Rattle.node_verdicts.specs.Judged.{AreJudged, IsFetchOf}
+use Rattle.node_verdicts.specs.Open.{AreOpenOf}
 use Rattle.node_verdicts.specs.declared.judged.Found.{Found}
 use Rattle.node_verdicts.proofs.ByAges.{IsLookedAt, all_looked_at, looked_at_fetches, unclear_open}
 use Rattle.node_verdicts.proofs.Joined.{judged_as}
 use Rattle.node_verdicts.proofs.Looked.{looked_none, looked_more, looked_passed, jobs_none, jobs_more, jobs_passed}
 use Rattle.node_verdicts.proofs.one_set.judge_blocks.Goals as goal
-use Rattle.node_verdicts.proofs.one_set.judge_blocks.Goals.{then-flags-block+in_ok-judge_block+in_ok-append, else-flags-block}
+use Rattle.node_verdicts.proofs.one_set.judge_blocks.Goals.{then-not-is_empty+in_ok-judge_block+in_ok-append, else-not-is_empty}
+
+pub judge_block-requires-clause-nodes : goal.judge_block-requires-clause-nodes
+judge_block-requires-clause-nodes c =
+    let all : length c.args.fetches.now ≡ length c.blocks-blocks.result.now =
+    c.requires.fetches.one_each
+    ∙ sym (ap length (c.blocks-blocks.ensures.same ∙ ap (λ (b : Aged). b.view.blocks) c.ages.view_is)) in
+    subst (AreOpenOf c.args.ages.now c.loop-block.block) (sym c.of_block-nodes.ensures)
+    (c.requires.fetches.each c.loop-block.block (omega (arith, c.loop-block-test.true, all)))
 
 pub loop-block-init : goal.loop-block-init
 loop-block-init c =
     let a : Aged = c.args.ages.now in
     record {
-      judged = looked_none a c.args.kept c.in_ok-judge_settled.field-0.items (c.in_ok-judge_settled.ensures c.args.kept);
+      judged = looked_none a c.args.kept c.args.settled.items c.requires.settled;
       jobs = jobs_none a.view a.start c.new.result.items c.new.ensures.items;
     }
 
@@ -23,20 +33,28 @@ loop-block-preserved c =
     let are : AreAges a = subst AreAges c.ages.view_is c.ages.invariant in
     let block = c.loop-block.block in
     let before = c.loop-block.found in
-    elim c.if-flags-block.branch [
-      | then-flags-block+in_ok-judge_block+in_ok-append w ↦
+    elim c.if-not-is_empty.branch [
+      | then-not-is_empty+in_ok-judge_block+in_ok-append w ↦
           let more = w.in_ok-judge_block.field-0 in
           record {
-            judged = looked_more a c.args.kept block before.judged.items more.judged.items c.if-flags-block.found.judged.items
-                c.loop-block.invariant.judged w.in_ok-judge_block.ensures.judged
+            judged = looked_more a c.args.kept block before.judged.items more.judged.items
+                c.if-not-is_empty.found.judged.items c.loop-block.invariant.judged w.in_ok-judge_block.ensures.judged
                 (ap (λ (f : Found). f.judged.items) w.found-is ∙ w.in_ok-append.ensures.judged);
-            jobs = jobs_more a.view a.start block before.jobs.items more.jobs.items c.if-flags-block.found.jobs.items
+            jobs = jobs_more a.view a.start block before.jobs.items more.jobs.items c.if-not-is_empty.found.jobs.items
                 c.loop-block.invariant.jobs w.in_ok-judge_block.ensures.jobs
                 (ap (λ (f : Found). f.jobs.items) w.found-is ∙ w.in_ok-append.ensures.jobs);
           }
-      | else-flags-block w ↦
+      | else-not-is_empty w ↦
+          let all : length c.args.fetches.now ≡ length c.blocks-blocks.result.now =
+          c.requires.fetches.one_each
+          ∙ sym (ap length (c.blocks-blocks.ensures.same ∙ ap (λ (b : Aged). b.view.blocks) c.ages.view_is)) in
+          let nodes : List ℕ = c.of_block-nodes.result.now in
+          let exactly : AreOpenOf a block nodes =
+          subst (AreOpenOf a block) (sym c.of_block-nodes.ensures)
+          (c.requires.fetches.each block (omega (arith, c.loop-block-test.true, all))) in
+          let empty : length nodes ≡ 0 = eqb-true (length nodes) 0 (sym c.is_empty.ensures ∙ w.if-not-is_empty.false) in
           let none : (n : ℕ) → IsOpen a block n → ⊥ =
-          λ n is. true_not_false (sym (c.requires.all block n is) ∙ w.if-flags-block.false) in
+          λ n is. let (k, inside, at) = (exactly.members n).1 is in omega (arith, inside, empty) in
           subst (λ (f : Found). record {
             judged : AreJudged a.view.nodes a.view.geometry a.start c.args.kept (IsLookedAt a (block + 1)) f.judged.items;
             jobs : AreJobsOf a.view a.start (block + 1) f.jobs.items;
@@ -46,9 +64,6 @@ loop-block-preserved c =
                 (λ unclear. none unclear.node (unclear_open a are block unclear));
           })
     ]
-  where
-    true_not_false : true ≡ false → ⊥
-    true_not_false same = cc same
 
 -- all blocks are looked at
 all_blocks : (c : goal.After-loop-block) → c.loop-block.block ≡ length c.args.ages.now.view.blocks

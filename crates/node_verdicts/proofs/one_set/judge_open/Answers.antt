@@ -1,79 +1,74 @@
-use Rattle.std.proofs.Common.{◌≡◌, ℕ, ◌+◌, List, Vec, Global, length, sym, ap, ◌∙◌, subst, arith}
+use Rattle.std.proofs.Common.{◌≡◌, ℕ, List, get_or, length, ap, ◌∙◌, subst, arith}
 use Rattle.std.specs.List.{Contains}
+use Rattle.std.proofs.lemmas.List.Elements.{Contains-get_or}
 use Rattle.cache_spec.specs.declared.start.Start.{Start}
-use Rattle.focus_plain.proofs.Equals.{same_number, other_number}
 use Rattle.path_model.specs.Graph.{address_of}
 use Rattle.set_view.specs.View.{View}
 use Rattle.node_verdicts.specs.Aged.{Aged, AreAges, IsOpen}
 use Rattle.node_verdicts.specs.Judged.{IsEnds, addresses_with}
 use Rattle.node_verdicts.specs.Witnesses.{view_of}
-use Rattle.node_verdicts.specs.declared.judged.Judged.{Judged}
-use Rattle.node_verdicts.proofs.Block.{AreSoFar, so_far_passed, so_far_more, so_far_all, fetch_inside}
+use Rattle.node_verdicts.proofs.Block.{so_far_none, so_far_more, fetch_inside}
+use Rattle.node_verdicts.proofs.Listed.{listed_none, listed_to, listed_more, listed_all}
 use Rattle.node_verdicts.proofs.one_set.judge_open.Goals as goal
-use Rattle.node_verdicts.proofs.one_set.judge_open.Goals.{then-eq+in_ok-ends+in_ok-add, else-eq}
 
-pub ends_at-requires : goal.ends_at-requires
-ends_at-requires c =
-    c.requires.known c.loop-node.node
-    ((c.open_at.ensures c.args.block).0 (same_number c.open_at.result c.args.block (sym c.eq.ensures ∙ c.if-eq.true)))
+pub address_of-at-requires : goal.address_of-at-requires
+address_of-at-requires c =
+    let a : Aged = c.args.ages.now in
+    let are : AreAges a = subst AreAges c.ages.view_is c.ages.invariant in
+    let node = get_or c.args.nodes.now c.loop-node.node-index 0 in
+    let is : IsOpen a c.args.block node =
+    (c.requires.nodes.members node).0
+    (Contains-get_or c.args.nodes.now c.loop-node.node-index 0 c.loop-node-test.true) in
+    omega (
+      arith,
+      fetch_inside a.view.fetches node c.args.block is.fetches,
+      are.is_view.one_each,
+      ap (λ (b : Aged). length b.view.nodes) c.ages.view_is,
+    )
+
+pub loop-node-init : goal.loop-node-init
+loop-node-init c =
+    let a : Aged = c.args.ages.now in
+    let addresses = c.new-addresses.result.items in
+    let judged = c.new-judged.result.items in
+    listed_none a c.args.kept c.args.block c.args.nodes.now addresses judged
+    (so_far_none a.view a.start c.args.kept (IsOpen a c.args.block) addresses judged c.new-addresses.ensures.items
+    c.new-judged.ensures.items)
 
 pub loop-node-preserved : goal.loop-node-preserved
 loop-node-preserved c =
     let a : Aged = c.args.ages.now in
     let view = a.view in
-    let Within = IsOpen a c.args.block in
-    let node = c.loop-node.node in
-    elim c.if-eq.branch [
-      | then-eq+in_ok-ends+in_ok-add w ↦
-          let is = (c.open_at.ensures c.args.block).0
-          (same_number c.open_at.result c.args.block (sym c.eq.ensures ∙ w.if-eq.true)) in
-          let ends = w.in_ok-ends.ends in
-          let right =
-          subst (λ (v : View). IsEnds v.nodes v.geometry a.start node ends) c.requires.view
-          (subst (λ (s : Start). IsEnds (view_of c.args.witnesses.now).nodes (view_of c.args.witnesses.now).geometry s node
-          ends) c.requires.start w.in_ok-ends.ensures.ends) in
-          let addresses = c.loop-node.addresses.items in
-          let at_is : w.address_of-at.result ≡ address_of view.nodes node =
-          w.address_of-at.ensures ∙ ap (λ (b : Aged). address_of b.view.nodes node) c.ages.view_is in
-          so_far_more view a.start c.args.kept Within node addresses c.loop-node.judged.items
-          c.loop-node.invariant is ends right
-          (λ none.
-          let spared = w.wants.ensures (w.in_ok-ends.ensures.spared none) in (
-            spared.0,
-            subst (λ (at : ℕ). Contains addresses at) at_is
-                (subst (λ (xs : List ℕ). Contains xs w.address_of-at.result) w.deref.ensures.value spared.1),
-          ))
-          c.if-eq.judged.items c.if-eq.addresses.items
-          (ap (λ (v : Vec Judged Global). v.items) w.judged-is ∙ w.in_ok-add.ensures.judged)
-          (ap (λ (v : Vec ℕ Global). v.items) w.addresses-is ∙ w.in_ok-add.ensures.addresses
-          ∙ ap (λ (at : ℕ). addresses_with ends at addresses) at_is)
-      | else-eq w ↦
-          let other = other_number c.open_at.result c.args.block (sym c.eq.ensures ∙ w.if-eq.false) in
-          subst (λ (js : List Judged).
-          AreSoFar view a.start c.args.kept Within (node + 1) c.if-eq.addresses.items js)
-          (ap (λ (v : Vec Judged Global). v.items) (sym w.judged-is))
-          (subst (λ (xs : List ℕ).
-          AreSoFar view a.start c.args.kept Within (node + 1) xs c.loop-node.judged.items)
-          (ap (λ (v : Vec ℕ Global). v.items) (sym w.addresses-is))
-          (so_far_passed view a.start c.args.kept Within node c.loop-node.addresses.items
-          c.loop-node.judged.items c.loop-node.invariant (λ is. other ((c.open_at.ensures c.args.block).1 is))))
-    ]
+    let nodes = c.args.nodes.now in
+    let place = c.loop-node.node-index in
+    let node = get_or nodes place 0 in
+    let is : IsOpen a c.args.block node =
+    (c.requires.nodes.members node).0 (Contains-get_or nodes place 0 c.loop-node-test.true) in
+    let ends = c.in_ok-ends.ends in
+    let right =
+    subst (λ (v : View). IsEnds v.nodes v.geometry a.start node ends) c.requires.witnesses.view
+    (subst (λ (s : Start). IsEnds (view_of c.args.witnesses.now).nodes (view_of c.args.witnesses.now).geometry s node
+    ends) c.requires.witnesses.start c.in_ok-ends.ensures.ends) in
+    let addresses = c.loop-node.addresses.items in
+    let judged = c.loop-node.judged.items in
+    let at_is : c.address_of-at.result ≡ address_of view.nodes node =
+    c.address_of-at.ensures ∙ ap (λ (b : Aged). address_of b.view.nodes node) c.ages.view_is in
+    listed_more a c.args.kept c.args.block nodes c.requires.nodes place addresses c.add.new.addresses.items judged
+    c.add.new.judged.items c.loop-node.invariant c.loop-node-test.true
+    (so_far_more view a.start c.args.kept (IsOpen a c.args.block) node addresses judged
+    (listed_to a c.args.kept c.args.block nodes c.requires.nodes place addresses judged c.loop-node.invariant
+    c.loop-node-test.true) is ends right
+    (λ none.
+    let spared = c.wants.ensures (c.in_ok-ends.ensures.spared none) in (
+      spared.0,
+      subst (λ (at : ℕ). Contains addresses at) at_is
+          (subst (λ (xs : List ℕ). Contains xs c.address_of-at.result) c.deref.ensures.value spared.1),
+    ))
+    c.add.new.judged.items c.add.new.addresses.items c.in_ok-add.ensures.judged
+    (c.in_ok-add.ensures.addresses ∙ ap (λ (at : ℕ). addresses_with ends at addresses) at_is))
 
 pub returns : goal.returns
 returns c =
-    let a : Aged = c.args.ages.now in
-    let are : AreAges a = subst AreAges c.ages.view_is c.ages.invariant in
-    let count : length c.nodes.result.now ≡ length a.view.nodes =
-    ap length (c.nodes.ensures.same ∙ c.graph.ensures.same ∙ ap (λ (b : Aged). b.view.nodes) c.ages.view_is) in
-    let all : length a.view.fetches ≡ c.loop-node.node =
-    omega (
-      arith,
-      count,
-      are.is_view.one_each,
-      are.is_view.graph.few,
-      c.loop-node-test.false,
-      c.loop-node.auto.node-end,
-    ) in
-    so_far_all a.view a.start c.args.kept (IsOpen a c.args.block) c.loop-node.node c.loop-node.addresses.items
-    c.loop-node.judged.items c.loop-node.invariant
-    (λ n is. omega (arith, all, fetch_inside a.view.fetches n c.args.block is.fetches))
+    listed_all c.args.ages.now c.args.kept c.args.block c.args.nodes.now c.requires.nodes c.loop-node.node-index
+    c.loop-node.addresses.items c.loop-node.judged.items c.loop-node.invariant
+    (omega (arith, c.loop-node-test.false, c.loop-node.auto.node-index-end))

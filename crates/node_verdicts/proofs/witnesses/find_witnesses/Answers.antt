@@ -1,33 +1,93 @@
-use Rattle.std.proofs.Common.{◌≡◌, refl, sym, ap, ◌∙◌, subst, Some}
-use Rattle.focus_spec.specs.Younger.{fetch_at}
-use Rattle.set_view.specs.View.{View}
+use Rattle.std.proofs.Common.{refl, sym, ◌∙◌, subst}
+use Rattle.std.specs.List.{Contains}
 use Rattle.node_verdicts.specs.Aged.{Aged, AreAges}
-use Rattle.node_verdicts.proofs.Shown.{none_unclear, some_unclear}
+use Rattle.node_verdicts.proofs.Shown.{hits_of, misses_of, open_fetches, unclear_hit, unclear_miss, none_unclear_first, none_unclear_both}
 use Rattle.node_verdicts.proofs.witnesses.find_witnesses.Goals as goal
 
-pub returns-then-are_all_shown : goal.returns-then-are_all_shown
-returns-then-are_all_shown c =
+pub are_shown-requires-clause-fetches : goal.are_shown-requires-clause-fetches
+are_shown-requires-clause-fetches c =
     let a : Aged = c.args.ages.now in
-    let bounds = c.in_ok-bounds.bounds in
-    let all = c.if-are_all_shown.ensures.all refl in
+    let is = c.in_ok-hit.ensures in
+    let hits = hits_of a c.args.solver.now c.args.block c.in_ok-hit.hit c.requires.solver is.view is.start is.block is.hits
+    is.bounds in
+    open_fetches a (subst AreAges c.ages.view_is c.ages.invariant) c.args.block c.in_ok-hit.hit hits.view hits.block_is
+    c.args.nodes.now c.requires.nodes
+
+pub searched-requires-clause-unclear : goal.searched-requires-clause-unclear
+searched-requires-clause-unclear c =
+    let a : Aged = c.args.ages.now in
+    let is = c.in_ok-hit.ensures in
+    let hits = hits_of a c.args.solver.now c.args.block c.in_ok-hit.hit c.requires.solver is.view is.start is.block is.hits
+    is.bounds in
+    unclear_hit a (subst AreAges c.ages.view_is c.ages.invariant) c.args.block c.in_ok-hit.hit hits c.args.nodes.now
+    c.requires.nodes (c.if-not-are_shown.ensures.some refl)
+
+pub returns-then-branch : goal.returns-then-branch
+returns-then-branch c =
+    let a : Aged = c.args.ages.now in
+    let is = c.in_ok-hit.ensures in
+    let hits = hits_of a c.args.solver.now c.args.block c.in_ok-hit.hit c.requires.solver is.view is.start is.block is.hits
+    is.bounds in
+    let first = c.in_ok-miss_first.ensures c.if-branch.true in
+    let shown = c.are_shown.ensures.all c.if-not-are_shown.false in
     record {
-      view = c.in_ok-bounds.ensures.view;
-      start = c.in_ok-bounds.ensures.start;
-      known = all;
-      searched = none_unclear a (subst AreAges c.ages.view_is c.ages.invariant) c.args.block bounds c.in_ok-bounds.ensures all;
+      view = hits.view;
+      start = hits.start;
+      known = λ n is_open.
+          let there : Contains c.args.nodes.now n = (c.requires.nodes.members n).1 is_open in
+          record {
+            hits = hits.hits;
+            view = sym is.view;
+            start = sym is.start;
+            hit = shown n there;
+            miss = first n there;
+          };
+      searched = none_unclear_first a (subst AreAges c.ages.view_is c.ages.invariant) c.args.block
+          c.in_ok-hit.hit hits c.args.nodes.now c.requires.nodes shown c.args.solver.now c.requires.solver first;
     }
+
+pub are_shown-requires-2-clause-fetches : goal.are_shown-requires-2-clause-fetches
+are_shown-requires-2-clause-fetches c =
+    let a : Aged = c.args.ages.now in
+    let is = c.in_ok-miss.ensures in
+    let misses = misses_of a c.args.solver.now c.args.block c.in_ok-miss.miss c.requires.solver is.view is.start is.block
+    is.hits is.bounds in
+    open_fetches a (subst AreAges c.ages.view_is c.ages.invariant) c.args.block c.in_ok-miss.miss misses.view
+    misses.block_is c.args.nodes.now c.requires.nodes
+
+pub searched-requires-then-not-are_shown-2-clause-unclear : goal.searched-requires-then-not-are_shown-2-clause-unclear
+searched-requires-then-not-are_shown-2-clause-unclear c =
+    let a : Aged = c.args.ages.now in
+    let is = c.in_ok-miss.ensures in
+    let misses = misses_of a c.args.solver.now c.args.block c.in_ok-miss.miss c.requires.solver is.view is.start is.block
+    is.hits is.bounds in
+    unclear_miss a (subst AreAges c.ages.view_is c.ages.invariant) c.args.block c.in_ok-miss.miss misses c.args.nodes.now
+    c.requires.nodes (c.if-not-are_shown-2.ensures.some refl)
 
 pub returns : goal.returns
 returns c =
     let a : Aged = c.args.ages.now in
-    let found = c.in_ok-found.found in
-    let view : found.view ≡ a.view = c.in_ok-found.ensures.view ∙ ap (λ (b : Aged). b.view) c.ages.view_is in
+    let hit = c.in_ok-hit.ensures in
+    let miss = c.in_ok-miss.ensures in
+    let hits = hits_of a c.args.solver.now c.args.block c.in_ok-hit.hit c.requires.solver hit.view hit.start hit.block
+    hit.hits hit.bounds in
+    let misses = misses_of a c.args.solver.now c.args.block c.in_ok-miss.miss c.requires.solver miss.view miss.start
+    miss.block miss.hits miss.bounds in
+    let shown = c.are_shown.ensures.all c.if-not-are_shown.false in
+    let missed = c.are_shown-2.ensures.all c.if-not-are_shown-2.false in
     record {
-      view = view;
-      start = c.in_ok-found.ensures.start ∙ ap (λ (b : Aged). b.start) c.ages.view_is;
-      known = λ n is.
-          subst (λ (v : View). fetch_at v.fetches n ≡ Some found.block) (sym view)
-          (is.fetches ∙ ap Some (sym c.in_ok-found.ensures.block));
-      searched = some_unclear a (subst AreAges c.ages.view_is c.ages.invariant) c.args.block c.in_ok-bounds.bounds
-          c.in_ok-bounds.ensures (c.if-are_all_shown.ensures.some refl);
+      view = hits.view;
+      start = hits.start;
+      known = λ n is_open.
+          let there : Contains c.args.nodes.now n = (c.requires.nodes.members n).1 is_open in
+          record {
+            hits = hits.hits;
+            misses = misses.hits;
+            view = misses.view ∙ sym hits.view;
+            start = misses.start ∙ sym hits.start;
+            hit = shown n there;
+            miss = missed n there;
+          };
+      searched = none_unclear_both a (subst AreAges c.ages.view_is c.ages.invariant) c.args.block
+          c.in_ok-hit.hit c.in_ok-miss.miss hits misses c.args.nodes.now c.requires.nodes shown missed;
     }

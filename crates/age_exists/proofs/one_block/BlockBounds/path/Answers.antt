@@ -7,7 +7,8 @@ use Rattle.path_trail.specs.Trail.{IsChain}
 use Rattle.age_spec.specs.Settled.{IsShown}
 use Rattle.age_spec.specs.Ages.{age_at}
 use Rattle.age_exists.specs.Bounded.{Bounded, AreAttested}
-use Rattle.age_exists.specs.Seen.{seen_as}
+use Rattle.age_exists.specs.declared.retracing.Step.{Step}
+use Rattle.age_exists.specs.Seen.{seen_as, entries_seen}
 use Rattle.age_exists.proofs.Attests.{attested_entry, attested_number, attested_path}
 use Rattle.age_exists.proofs.one_block.BlockBounds.path.Goals as goal
 
@@ -27,7 +28,8 @@ trace-requires-clause-inside c =
     let entry = attested_entry b t are c.args.node c.requires.fetches in
     let number = attested_number b t are c.args.node c.requires.fetches c.index.result.now c.index.ensures in
     let here : entry.number ≡ c.in-Some.entry = same_Some entry.number c.in-Some.entry (sym number ∙ c.in-Some.is) in
-    subst (λ (k : ℕ). k < length t.entries) here entry.leads.inside
+    subst (λ (steps : List Step). c.in-Some.entry < length (entries_seen steps)) (sym c.deref.ensures.value)
+    (subst (λ (k : ℕ). k < length t.entries) here entry.leads.inside)
 
 pub returns-clause-path : goal.returns-clause-path
 returns-clause-path c =
@@ -49,5 +51,7 @@ returns-clause-path c =
     c.graph.ensures.same ∙ ap (λ (b : Bounded). b.view.nodes) c.self.view_is in
     let members : List ℕ = reverse c.in_ok-path.path.items in
     attested_path b t are c.args.node c.requires.fetches shown members
-    (subst (λ (k : ℕ). IsChain t.entries (Some k) members) here c.in_ok-path.ensures.chain)
+    (subst (λ (k : ℕ). IsChain t.entries (Some k) members) here
+    (subst (λ (steps : List Step). IsChain (entries_seen steps) (Some c.in-Some.entry) members) c.deref.ensures.value
+    c.in_ok-path.ensures.chain))
     (subst (λ (nodes : List Node). IsPath (graph_step nodes) 0 members) nodes_are c.in_ok-path.ensures.path)
