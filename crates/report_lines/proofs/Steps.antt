@@ -7,7 +7,7 @@ use Rattle.riscv_spec.specs.declared.parcel.Isa.TheVariants.{Rv32i, Rv32ic}
 use Rattle.report_spec.specs.Inner.{step_of}
 use Rattle.report_spec.specs.Report.{addresses_from, range_addresses}
 
--- the address so many steps after another
+-- the address n steps after another
 abbrev pub after : ℕ → ℕ → ℕ → ℕ
 after step first zero = first
 after step first (suc n) = after step (first + step) n
@@ -48,7 +48,7 @@ pub parcels_after : (first n : ℕ) → after 2 first n ≡ first + 2 * n
 parcels_after first zero = omega arith
 parcels_after first (suc n) = let later = parcels_after (first + 2) n in omega (arith, later)
 
--- so many steps lie before the address that many steps after another
+-- the address that is n steps after the first has n steps before it
 pub steps_before : (isa : Isa) (first n last : ℕ) → last ≡ after (step_of isa) first n
     → (last - first) / step_of isa ≡ n
 steps_before Rv32i first n last is = omega (arith, is, words_after first n)
