@@ -1,2 +1,5 @@
 pub mod Options
+pub mod Table
+pub mod ClapCommand
 pub mod Ranges
+pub mod Right

@@ -1,4 +1,9 @@
 pub mod Number
 pub mod Plain
 pub mod Options
+pub mod Commands
+pub mod ClapCommand
+pub mod Texts
 pub mod Settings
+pub mod Right
+pub mod Worked

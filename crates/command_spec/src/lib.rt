@@ -1,11 +1,15 @@
 //! What the arguments of a command line ask for: the settings, and the definition of which arguments give them.
 //!
-//! Only the plain form is read today: a command, and then its options in any order: names, each with its value after it,
-//! and flags, which have none. A command's options are one table; `takes_value` is the same table in code.
+//! In plain form they are a command, and then its options in any order: names, each with its value after it, and flags,
+//! which have none. What isn't in plain form is read as `clap` reads it. A command's options are one table, from which
+//! both readings are made; `Command::options` is that table in code. The laws say that arguments in plain form with right
+//! values always give settings, and have command lines that were worked out by hand.
 #![tactic(auto)]
 
+mod command;
 mod laws;
 mod settings;
 
-pub use laws::options_laws;
-pub use settings::{Ask, Command, GraphAsk, ReportAsk, Settings};
+pub use command::{Command, CommandOption};
+pub use laws::{options_laws, plain_laws, worked_lines};
+pub use settings::{Ask, GraphAsk, ReportAsk, Settings};

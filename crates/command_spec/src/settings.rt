@@ -1,7 +1,3 @@
-ghost use Rattle.std.specs.Prelude.{◌≡◌};
-ghost use Rattle.command_spec.specs.Plain.{takes_value};
-ghost use Rattle.command_spec.specs.Settings.{options_of};
-
 use cache_geom::Geometry;
 use cache_spec::Start;
 use riscv_spec::Isa;
@@ -31,6 +27,10 @@ pub struct ReportAsk {
     pub isa: Isa,
     pub start: Start,
     pub contexts: bool,
+    /// How many workers settle the jobs: 1 to 64. Read and tested; it changes nothing yet.
+    pub workers: u32,
+    /// How many words the node table is to have: 1 to 4,194,304. Read and tested; it changes nothing yet.
+    pub nodes: u32,
 }
 
 /// Which graph is asked for: of a program of these instructions, fetched from cache lines of this size.
@@ -39,25 +39,4 @@ pub struct GraphAsk {
     pub isa: Isa,
     /// The bytes of a line: a power of two from 4 to 256.
     pub line: u32,
-}
-
-/// The commands that have options.
-#[derive(Clone, Copy, Debug, PartialEq, Eq)]
-pub enum Command {
-    Classify,
-    Graph,
-}
-
-impl Command {
-    /// Whether a value stands after this option of the command. `None` where the command has no such option.
-    pub fn takes_value(self, option: &str) -> Option<bool>
-        ensures { result ≡ takes_value (options_of self) option.now }
-    {
-        match (self, option) {
-            (_, "--line" | "--entry" | "--isa") => Some(true),
-            (Command::Classify, "--sets" | "--ways" | "--start") => Some(true),
-            (Command::Classify, "--contexts") => Some(false),
-            _ => None,
-        }
-    }
 }

@@ -160,6 +160,12 @@ SaysOf words file OutOfMemory old new = Unit {0}
 SaysOf words file ReadFault old new = Unit {0}
 SaysOf words file (TooManyBlocks set count) old new = Judges words file (TooManyBlocks set count) old new
 
+-- how arguments without settings are answered: by Usage, or by out of memory where there was none to read them; neither the
+-- source nor the sink is touched
+abbrev pub TouchesNeither : {S O : Type 0} → Status → S → S → O → O → Type 0
+TouchesNeither status source source_after sink sink_after =
+    ((status ≡ Usage) ⊎ (status ≡ OutOfMemory)) × (source_after ≡ source) × (sink_after ≡ sink)
+
 -- the answer to arguments that give settings, where the file is known and no port fails: a report, the one refusal of the
 -- file, or out of memory
 abbrev pub Decides : List (List ℕ) → List ℕ → Status → Option (List ℕ) → Option (List ℕ) → Type 0

@@ -7,7 +7,7 @@ ghost use Rattle.top_words.specs.FaultText.{fault_text};
 ghost use Rattle.top_words.specs.Status.{KeepsMemoryApart};
 ghost use Rattle.node_spec.specs.Verdict.{kept_for};
 ghost use Rattle.report_lines.specs.Findings.{IsWithin};
-ghost use Rattle.icache_top.specs.Answer.{Answers, CountsOut, CountsOutRefusals, CountsSource, Decides, IsAcceptedWith, ReadsFor, SaysOf, SaysOfProgram, Tells, WritesFor, program_for, settled_as, status_of, file_limit};
+ghost use Rattle.icache_top.specs.Answer.{Answers, CountsOut, CountsOutRefusals, CountsSource, Decides, IsAcceptedWith, ReadsFor, SaysOf, SaysOfProgram, Tells, TouchesNeither, WritesFor, program_for, settled_as, status_of, file_limit};
 ghost use Rattle.icache_top.specs.JobRecords.{AreReadRecords, AreRecordsFrom, AreRecordsOf, HasRecords, HasRecordsOf};
 
 use crate::graph::send_graph;
@@ -38,8 +38,10 @@ pub fn run<R: Threads + Sync, S: Source, O: Sink, E: Sink, G: Gate + Sync>(
     err: &mut E,
     gate: &G,
 ) -> Outcome
-    // Which arguments are refused, and that nothing else is answered to them.
-    ensures usage { (result.status ≡ Status.Usage) ↔ IsNone (settings_of (bytes_of words.now)) }
+    // Which arguments are refused, and that nothing else is answered to them, unless memory runs out while they are read.
+    ensures usage { result.status ≡ Status.Usage → IsNone (settings_of (bytes_of words.now)) }
+    ensures refused { IsNone (settings_of (bytes_of words.now))
+        → TouchesNeither result.status source.old source.new out.old out.new }
 
     // What each status says of the file, and of what was sent.
     ensures answer { Answers (bytes_of words.now) result.status
@@ -104,7 +106,9 @@ fn answer<S: Source, O: Sink>(
     source: &mut S,
     out: &mut O,
 ) -> Result<Jobs, Status>
-    ensures usage { (result ≡ Err Status.Usage) ↔ IsNone (settings_of (bytes_of words.now)) }
+    ensures usage { result ≡ Err Status.Usage → IsNone (settings_of (bytes_of words.now)) }
+    ensures refused { IsNone (settings_of (bytes_of words.now))
+        → TouchesNeither (status_of result) source.old source.new out.old out.new }
     ensures not_done { IfErr result (λ status. status ≢ Status.Done) }
     ensures answer { Answers (bytes_of words.now) (status_of result)
         (S.left source.old) (S.left source.new) (O.sent out.old) (O.sent out.new) }
@@ -116,7 +120,7 @@ fn answer<S: Source, O: Sink>(
     ensures writing { WritesFor O.writes (status_of result) out.old out.new }
     ensures memory { KeepsMemoryApart (status_of result) }
 {
-    let Some(settings) = read_words(words) else {
+    let Some(settings) = read_words(alloc, words)? else {
         return Err(Status::Usage);
     };
     let file = read_all(alloc, source, FILE_LIMIT)?;

@@ -1,3 +1,5 @@
 pub mod Digits
 pub mod Hex
 pub mod Walked
+pub mod ClapOptions
+pub mod ClapFaults

@@ -1,8 +1,8 @@
 -- What a walk along the arguments knows at each option.
-use Rattle.std.proofs.Common.{◌≡◌, ◌≤◌, ◌-◌, ◌&&◌, ℕ, Bool, true, false, not, List, [], ◌∷◌, length, take, drop, get_or, Some, None, String, bytes_eq, string_bytes, if◌then◌else◌, refl, ap, sym, ◌∙◌, arith}
+use Rattle.std.proofs.Common.{◌≡◌, ◌≤◌, ◌-◌, ◌&&◌, ◌||◌, ℕ, Bool, true, false, not, List, [], ◌∷◌, length, take, drop, get_or, Some, None, String, bytes_eq, string_bytes, if◌then◌else◌, refl, ap, sym, ◌∙◌, arith}
 use Rattle.std.specs.declared.alloc.Global.{Global}
 use Rattle.std.proofs.Math.Seq.{take-length}
-use Rattle.command_spec.specs.Plain.{OptionKind, value_of, is_flag, is_new, is_plain}
+use Rattle.command_spec.specs.Plain.{OptionKind, value_of, has_option, is_flag, is_new, is_plain}
 use Rattle.top_words.specs.Views.{bytes_of}
 use Rattle.top_words.specs.Walk.{after_option}
 
@@ -76,6 +76,27 @@ pub is_plain-option : (kinds : List OptionKind) (words : List (String Global)) (
 is_plain-option kinds words first text rest at =
     ap (is_plain kinds) (bytes-option kinds words first text rest at)
     ∙ plain-option kinds text (later_of words) rest at.rest_is
+
+-- an option of another name is passed over
+has-option : (kinds : List OptionKind) (name first : List ℕ) (later rest : List (String Global))
+    → after_option kinds first later ≡ Some rest → bytes_eq first name ≡ false
+    → has_option kinds name (first ∷ bytes_of later) ≡ has_option kinds name (bytes_of rest)
+has-option kinds name first [] rest is other =
+    other ∙ ap (λ left. has_option kinds name (bytes_of left)) (after-last (is_flag kinds first) rest is).1
+has-option kinds name first (next ∷ words) rest is other =
+    ap (λ found. found || (if is_flag kinds first then has_option kinds name (bytes_of (next ∷ words))
+    else has_option kinds name (bytes_of words))) other
+    ∙ after-next (is_flag kinds first) (λ left. has_option kinds name (bytes_of left)) next words rest is
+
+-- the same of the arguments that are left of a walk
+pub has_option-option : (kinds : List OptionKind) (name : List ℕ) (words : List (String Global)) (first : String Global)
+    (text : List ℕ)
+    (rest : List (String Global))
+    → IsOption kinds words first text rest → bytes_eq text name ≡ false
+    → has_option kinds name (bytes_of words) ≡ has_option kinds name (bytes_of rest)
+has_option-option kinds name words first text rest at other =
+    ap (has_option kinds name) (bytes-option kinds words first text rest at)
+    ∙ has-option kinds name text (later_of words) rest at.rest_is other
 
 -- a flag has no value, and another name's isn't this one's
 skipped : {X : Type 0} (flag named : Bool) (skip found later : X) → (named && not flag) ≡ false

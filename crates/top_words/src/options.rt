@@ -1,7 +1,7 @@
 // The options of a command among its arguments: one walk from option to option serves all questions.
 ghost use Rattle.std.specs.Prelude.{◌≡◌, ◌≤◌, None, Some, length, option_copied, MatchOption};
 ghost use Rattle.command_spec.specs.Plain.{value_of, has_option, is_flag, is_new, is_plain};
-ghost use Rattle.command_spec.specs.Settings.{options_of};
+ghost use Rattle.command_spec.specs.Commands.{options_of};
 ghost use Rattle.top_words.specs.Walk.{after_option};
 ghost use Rattle.top_words.specs.Views.{bytes_of};
 

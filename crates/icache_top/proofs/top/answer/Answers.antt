@@ -9,4 +9,4 @@ use Rattle.icache_top.proofs.top.answer.Goals as goal
 pub answer_file-requires-clause-line : goal.answer_file-requires-clause-line
 answer_file-requires-clause-line g c =
     let P : Option Settings → Type 0 = λ given. IfSome given (λ settings. HasGraphLine settings.ask) in
-    subst P (sym c.read_words.ensures ∙ c.in-Some.is) (settings_have (bytes_of c.args.words.now))
+    subst P (sym c.in_ok-settings.ensures ∙ c.in-Some.is) (settings_have (bytes_of c.args.words.now))

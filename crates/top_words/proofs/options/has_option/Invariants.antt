@@ -1,5 +1,5 @@
 use Rattle.std.proofs.Common.{◌≡◌, length}
-use Rattle.command_spec.specs.Settings.{options_of}
+use Rattle.command_spec.specs.Commands.{options_of}
 use Rattle.command_spec.specs.Plain.{has_option}
 use Rattle.top_words.specs.Views.{bytes_of}
 use Rattle.top_words.proofs.options.has_option.Given as goal

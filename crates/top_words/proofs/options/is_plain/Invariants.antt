@@ -1,6 +1,6 @@
 use Rattle.std.proofs.Common.{◌≡◌, length}
 use Rattle.command_spec.specs.Plain.{is_plain}
-use Rattle.command_spec.specs.Settings.{options_of}
+use Rattle.command_spec.specs.Commands.{options_of}
 use Rattle.top_words.specs.Views.{bytes_of}
 use Rattle.top_words.proofs.options.is_plain.Given as goal
 

@@ -1,6 +1,6 @@
 use Rattle.std.proofs.Common.{◌≡◌, ◌∙◌, ◌&&◌, not, false, bytes_eq, None, rules}
 use Rattle.std.proofs.lemmas.Bool.{and_left, and_right}
-use Rattle.command_spec.specs.Settings.{options_of}
+use Rattle.command_spec.specs.Commands.{options_of}
 use Rattle.command_spec.specs.Plain.{is_flag, value_of}
 use Rattle.top_words.specs.Views.{bytes_of}
 use Rattle.top_words.proofs.Walked.{IsOption, value_of-ended, value_of-option}

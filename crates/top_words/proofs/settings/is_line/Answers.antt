@@ -1,7 +1,7 @@
 use Rattle.std.proofs.Common.{◌∙◌}
 use Rattle.std.proofs.Math.Bool.{and-true}
 use Rattle.cache_spec.specs.Geometry.{is_line}
-use Rattle.top_words.proofs.words.is_line.Goals as goal
+use Rattle.top_words.proofs.settings.is_line.Goals as goal
 
 pub returns : goal.returns
 unfolding lib.Count.ones
