@@ -1,6 +1,6 @@
 -- The settings that the arguments of a command line give, if they give any. The arguments lack the program's name.
 -- Defaults and ranges are this project's own.
-use Rattle.std.specs.Prelude.{ℕ, ◌&&◌, List, Option, Some, None, option_map, option_and_then, nat_le, codes, bytes_eq, if◌then◌else◌, IsTrue}
+use Rattle.std.specs.Prelude.{ℕ, ◌≤◌, ◌&&◌, List, Option, Some, None, option_map, option_and_then, nat_le, codes, bytes_eq, if◌then◌else◌, IsTrue}
 use Rattle.cache_spec.specs.Geometry.{Geometry, is_in_range, is_line}
 use Rattle.cache_spec.specs.declared.start.Start.{Start}
 use Rattle.cache_spec.specs.declared.start.Start.TheVariants.{Empty, Any}
@@ -113,10 +113,10 @@ report_in texts =
 abbrev pub graph_of : Isa → ℕ → Option Ask
 graph_of isa line = if is_line line then Some (Graph (record { isa = isa; line = line })) else None
 
--- a graph is asked for with a line in its range
-abbrev pub HasGraphLine : Ask → Type 0
-HasGraphLine (Report ask) = Unit {0}
-HasGraphLine (Graph ask) = IsTrue (is_line ask.line)
+-- the workers of a report, and the line of a graph, are in their ranges
+abbrev pub IsInRange : Ask → Type 0
+IsInRange (Report ask) = (1 ≤ ask.workers) × (ask.workers ≤ 64)
+IsInRange (Graph ask) = IsTrue (is_line ask.line)
 
 -- the graph that the arguments of `graph` ask for
 abbrev pub graph_in : Texts → Option Ask

@@ -27,7 +27,7 @@ pub struct ReportAsk {
     pub isa: Isa,
     pub start: Start,
     pub contexts: bool,
-    /// How many workers settle the jobs: 1 to 64. Read and tested; it changes nothing yet.
+    /// How many workers settle the nodes: 1 to 64.
     pub workers: u32,
     /// How many words the node table is to have: 1 to 4,194,304. Read and tested; it changes nothing yet.
     pub nodes: u32,

@@ -6,7 +6,6 @@
 //! says that the contract leaves one answer.
 #![tactic(auto)]
 
-mod gate;
 mod graph;
 mod laws;
 mod outcome;
@@ -15,8 +14,8 @@ mod report;
 mod tests;
 mod top;
 
-pub use gate::{Gate, IdleGate};
 pub use laws::answer_laws;
 pub use outcome::{JobRecord, Jobs, NodeWords, Outcome, Place, Places};
 pub use top::run;
 pub use top_words::Status;
+pub use work_share::{Gate, IdleGate};

@@ -1,6 +1,6 @@
 ghost use Rattle.std.specs.Prelude.{◌<◌};
 
-use crate::{IdleGate, Outcome, Status, run};
+use crate::{Gate, IdleGate, Outcome, Status, run};
 use byte_port::{Failed, MemSink, MemSource, Sink, Source, SureSink, SureSource};
 use elf_image::ElfFault;
 use flow_spec::FlowFault;
@@ -13,6 +13,7 @@ mod compressed;
 mod graphs;
 mod hostile;
 mod reports;
+mod workers;
 
 /// The file up to the program header's sizes.
 const START: [u8; 68] = [
@@ -72,19 +73,22 @@ pub(crate) fn run_on(
     line: &str,
     file: Vec<u8>,
 ) -> Result<Ran, AllocError> {
+    run_with(rt, alloc, line, file, &IdleGate)
+}
+
+/// The same with a gate.
+pub(crate) fn run_with(
+    rt: &(impl Threads + Sync),
+    alloc: Global,
+    line: &str,
+    file: Vec<u8>,
+    gate: &(impl Gate + Sync),
+) -> Result<Ran, AllocError> {
     let words = words_of(alloc, line)?;
     let mut source = SureSource::new(file, 1000);
     let mut out = SureSink::new(alloc, 100000);
     let mut err = SureSink::new(alloc, 7);
-    let outcome = run(
-        rt,
-        alloc,
-        &words,
-        &mut source,
-        &mut out,
-        &mut err,
-        &IdleGate,
-    );
+    let outcome = run(rt, alloc, &words, &mut source, &mut out, &mut err, gate);
     Ok(Ran { outcome, out, err })
 }
 

@@ -1,7 +1,7 @@
 ghost use Rattle.std.specs.Prelude.{◌≡◌, ◌≢◌, ◌↔◌, ℕ, ◌<◌, ◌≤◌, List, [], Some, IsNone, IsSome, IfSome, IfOk, IfErr, length};
 ghost use Rattle.byte_port.specs.Count.{Rose};
 ghost use Rattle.byte_port.specs.Sent.{Reports};
-ghost use Rattle.command_spec.specs.Settings.{settings_of, HasGraphLine};
+ghost use Rattle.command_spec.specs.Settings.{settings_of, IsInRange};
 ghost use Rattle.top_words.specs.Views.{bytes_of};
 ghost use Rattle.top_words.specs.FaultText.{fault_text};
 ghost use Rattle.top_words.specs.Status.{KeepsMemoryApart};
@@ -12,7 +12,7 @@ ghost use Rattle.icache_top.specs.JobRecords.{AreReadRecords, AreRecordsFrom, Ar
 
 use crate::graph::send_graph;
 use crate::report::{Findings, send_report};
-use crate::{Gate, Jobs, NodeWords, Outcome, Status};
+use crate::{Jobs, NodeWords, Outcome, Status};
 use byte_port::{Sink, Source, read_all};
 use call_expand::expand;
 use command_spec::{Ask, GraphAsk, ReportAsk, Settings};
@@ -22,12 +22,15 @@ use node_verdicts::{Settled, ViewFault, node_verdicts};
 use std::alloc::Global;
 use std::thread::Threads;
 use top_words::{explain, read_words};
+use work_share::Gate;
 
 /// The most bytes that a file may have.
 const FILE_LIMIT: usize = 16777216;
 
 /// All that the program does: reads the arguments, reads the source to its end, and sends the answer to `out`. At every
 /// status but `Done` the fault's text goes to `err`. The arguments lack the program's name.
+///
+/// A report is worked out by as many workers as the arguments say. The gate is told of each job before a worker begins it.
 #[tactic(auto, using(crate::proofs::Complete::says, crate::proofs::Complete::decides, crate::proofs::Recorded::known_records, crate::proofs::Recorded::none_but_done))]
 pub fn run<R: Threads + Sync, S: Source, O: Sink, E: Sink, G: Gate + Sync>(
     rt: &R,
@@ -82,7 +85,7 @@ pub fn run<R: Threads + Sync, S: Source, O: Sink, E: Sink, G: Gate + Sync>(
     ensures known_jobs { IfSome (S.left source.old) (λ file. HasRecordsOf (bytes_of words.now) file result.status
         result.jobs) }
 {
-    match answer(alloc, words, source, out) {
+    match answer(rt, alloc, words, source, out, gate) {
         Ok(jobs) => Outcome {
             status: Status::Done,
             table: NodeWords::none(alloc),
@@ -100,11 +103,13 @@ pub fn run<R: Threads + Sync, S: Source, O: Sink, E: Sink, G: Gate + Sync>(
 }
 
 /// Sends what the arguments ask for of the file that is read, and gives the jobs.
-fn answer<S: Source, O: Sink>(
+fn answer<R: Threads + Sync, S: Source, O: Sink, G: Gate + Sync>(
+    rt: &R,
     alloc: Global,
     words: &[String],
     source: &mut S,
     out: &mut O,
+    gate: &G,
 ) -> Result<Jobs, Status>
     ensures usage { result ≡ Err Status.Usage → IsNone (settings_of (bytes_of words.now)) }
     ensures refused { IsNone (settings_of (bytes_of words.now))
@@ -124,18 +129,20 @@ fn answer<S: Source, O: Sink>(
         return Err(Status::Usage);
     };
     let file = read_all(alloc, source, FILE_LIMIT)?;
-    answer_file(alloc, file, &settings, out)
+    answer_file(rt, alloc, file, &settings, out, gate)
 }
 
 /// Sends what the settings ask for of a file, and gives the jobs.
-fn answer_file<O: Sink>(
+fn answer_file<R: Threads + Sync, O: Sink, G: Gate + Sync>(
+    rt: &R,
     alloc: Global,
     file: Vec<u8>,
     settings: &Settings,
     out: &mut O,
+    gate: &G,
 ) -> Result<Jobs, Status>
     requires limit { length file.items ≤ file_limit }
-    requires line { HasGraphLine settings.now.ask }
+    requires ranges { IsInRange settings.now.ask }
     ensures not_done { IfErr result (λ status. status ≢ Status.Done) }
     ensures reported { Tells settings.now file.items (status_of result) (O.sent out.old) (O.sent out.new) }
     ensures jobs { IfOk result (AreRecordsOf settings.now file.items) }
@@ -147,20 +154,23 @@ fn answer_file<O: Sink>(
     let image = elf_image::read(alloc, file)?;
     let entry = settings.entry.unwrap_or(image.entry());
     match &settings.ask {
-        Ask::Report(ask) => classify(alloc, out, &image, entry, ask),
+        Ask::Report(ask) => classify(rt, alloc, out, &image, entry, ask, gate),
         Ask::Graph(ask) => graph(alloc, out, &image, entry, ask),
     }
 }
 
 /// Sends the report of a program, and gives its jobs.
-fn classify<O: Sink>(
+fn classify<R: Threads + Sync, O: Sink, G: Gate + Sync>(
+    rt: &R,
     alloc: Global,
     out: &mut O,
     image: &Image,
     entry: u32,
     ask: &ReportAsk,
+    gate: &G,
 ) -> Result<Jobs, Status>
-    requires { IsWithin ask.now.isa image.now }
+    requires within { IsWithin ask.now.isa image.now }
+    requires ranges { IsInRange (Ask.Report ask.now) }
     ensures not_done { IfErr result (λ status. status ≢ Status.Done) }
     ensures reported { SaysOfProgram (Ask.Report ask.now) (program_for (Ask.Report ask.now) image.now entry) (status_of result) (O.sent out.old) (O.sent out.new) }
     ensures jobs { IfOk result (λ jobs. IsAcceptedWith (program_for (Ask.Report ask.now) image.now entry)
@@ -172,7 +182,16 @@ fn classify<O: Sink>(
 {
     let expanded = expand(alloc, image, entry, ask.isa, ask.geometry.line())?;
     let kept = kept_for(ask.contexts);
-    let settled = settled(node_verdicts(alloc, expanded.graph(), &ask.geometry, ask.start, kept))?;
+    let settled = settled(node_verdicts(
+        rt,
+        alloc,
+        expanded.graph(),
+        &ask.geometry,
+        ask.start,
+        kept,
+        ask.workers,
+        gate,
+    ))?;
     let jobs = Jobs::of_blocks(alloc, &settled.jobs)?;
     let found = Findings {
         image,

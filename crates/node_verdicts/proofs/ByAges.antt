@@ -10,7 +10,7 @@ use Rattle.age_spec.proofs.Bounded.{solution_rows, solution_bounds, must_hits, m
 use Rattle.age_spec.proofs.Unique.{must_same, may_same}
 use Rattle.focus_spec.specs.Younger.{fetch_at}
 use Rattle.node_verdicts.specs.Aged.{Aged, AreAges, IsOpen, IsSettled, IsDecided}
-use Rattle.node_verdicts.specs.Judged.{IsFetchOf, IsEnds, addresses_with}
+use Rattle.node_verdicts.specs.Judged.{IsEnds, addresses_with}
 use Rattle.node_verdicts.specs.declared.judged.Ends.{Ends}
 use Rattle.node_verdicts.specs.declared.judged.Ends.TheVariants.{Hits, Misses, Both}
 use Rattle.node_verdicts.proofs.Block.{fetch_inside, fetches_one}
@@ -48,10 +48,6 @@ module _ (a : Aged) (are : AreAges a) (block n : ℕ) (fetches : fetch_at a.view
         ];
       }
 
--- a node is settled by ages, or its fetch of one of the first blocks is open
-abbrev pub IsLookedAt : Aged → ℕ → ℕ → Type 0
-IsLookedAt a count n = IsSettled a n ⊎ ((block : ℕ) × (block < count) × IsOpen a block n)
-
 -- a number is there or not
 cases_eq_option : (one : Option ℕ) (two : ℕ) → (one ≡ Some two) ⊎ (one ≡ Some two → ⊥)
 cases_eq_option None two = inr (λ same. none-some two same)
@@ -73,22 +69,9 @@ open_or_not a block n = elim (cases_eq_option (fetch_at a.view.fetches n) block)
   | inr other ↦ inr (λ is. other is.fetches)
 ]
 
--- with all blocks these are all nodes that fetch a viewed block
-pub all_looked_at : (a : Aged) → AreAges a → (n : ℕ) → IsFetchOf a.view (length a.view.blocks) n
-    → IsLookedAt a (length a.view.blocks) n
-all_looked_at a are n (block, below, fetches) = elim (open_or_not a block n) [
-  | inl is ↦ inr (block, below, is)
-  | inr not ↦ inl (block, fetches, not)
-]
-
-pub looked_at_fetches : (a : Aged) → AreAges a → (n : ℕ) → IsLookedAt a (length a.view.blocks) n
-    → IsFetchOf a.view (length a.view.blocks) n
-looked_at_fetches a are n (inl (block, fetches, not)) = (block, are.is_view.within n block fetches, fetches)
-looked_at_fetches a are n (inr (block, below, is)) = (block, below, is.fetches)
-
 -- no node is settled and open
-pub settled_or_open : (a : Aged) (block n : ℕ) → IsSettled a n → IsOpen a block n → ⊥
-settled_or_open a block n (other, fetches, not) is =
+pub settled_or_open : (a : Aged) (unclear : List ℕ) (block n : ℕ) → IsSettled a unclear n → IsOpen a block n → ⊥
+settled_or_open a unclear block n (other, fetches, not, clear) is =
     not (subst (λ (b : ℕ). IsOpen a b n) (fetches_one a.view n block other is.fetches fetches) is)
 
 -- a block with an unclear fetch has an open one

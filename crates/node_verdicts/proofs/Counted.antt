@@ -8,7 +8,8 @@ use Rattle.path_model.specs.declared.graph.Node.{Node}
 use Rattle.path_model.specs.Graph.{address_of, addresses_of}
 use Rattle.focus_spec.specs.Younger.{named, fetch_at}
 use Rattle.set_view.specs.View.{View, IsView}
-use Rattle.cache_spec.specs.Blocks.{block_in, HaveFew}
+use Rattle.cache_spec.specs.Blocks.{block_in, block_limit, HaveBlocks, HaveFew}
+use Rattle.set_list.specs.RisingSets.{same_from_subsets}
 use Rattle.node_verdicts.specs.Judged.{set_at}
 
 -- an address is that of a node
@@ -85,3 +86,13 @@ local_there view is n inside at =
     let (local, found) =
     some_local view.blocks (fetch_at view.fetches n) (block_of g address) (is.fetches n inside ∙ block) in
     (local, found, is.within n local found)
+
+-- a set with few fetched blocks isn't one with many
+pub few_not_many : (addresses : List ℕ) (g : Geometry) (set count : ℕ) → HaveFew addresses g set
+    → HaveBlocks addresses g set count → block_limit < count → ⊥
+few_not_many addresses g set count (fewer, (blocks, are, long), few) (others, theirs, as_long) many =
+    let same : blocks ≡ others =
+    same_from_subsets blocks others are.rising theirs.rising
+    (λ block has. (theirs.members block).1 ((are.members block).0 has))
+    (λ block has. (are.members block).1 ((theirs.members block).0 has)) in
+    omega (arith, few, many, long, as_long, ap length same)

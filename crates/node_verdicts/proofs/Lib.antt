@@ -9,6 +9,9 @@ pub mod Looked
 pub mod Jobs
 pub mod Viewed
 pub mod Spans
+pub mod Matched
 pub mod Lifted
 pub mod Noted
 pub mod Right
+pub mod Parted
+pub mod Searched

@@ -29,7 +29,6 @@ use Rattle.line_blocks.specs.Ways.{IsWayFor}
 use Rattle.node_verdicts.specs.Noted.{IsVerdictFor, IsUntouched, AreNoted}
 use Rattle.node_verdicts.specs.Ranges.{AreFew, IsFaultWithin}
 use Rattle.node_verdicts.specs.Verdicts.{AreRight, IsFault}
-use Rattle.node_verdicts.proofs.Block.{none_there}
 
 -- a place of a list has an element
 some_there : {A : Type 0} (xs : List A) (n : ℕ) → n < length xs → (x : A) × (slice_get xs n ≡ Some x)
@@ -93,7 +92,7 @@ module _ (r : Runs) (start : Start) (laws : Laws r start) where
   module _ (kept : Kept) (sets : ℕ) (judged : List Judged) (found : List NodeVerdict)
       (below : (p : ℕ) → set_at r.small r.shape p < sets)
       (are : AreJudged r.small r.shape start kept (IsFetcher r.small r.shape 0 sets) judged)
-      (noted : AreNoted r judged [] found) where
+      (noted : AreNoted r judged found) where
     -- a judgement is of a run
     run_inside : (one : Judged) → Contains judged one → one.node < length r.runs
     run_inside one there = omega (arith, (are.within one there).inside, laws.as_many)
@@ -108,10 +107,10 @@ module _ (r : Runs) (start : Start) (laws : Laws r start) where
 
     -- the first node of a run isn't left untouched
     head_touched : (p : ℕ) (verdict : NodeVerdict) → p < length r.runs
-        → IsUntouched r judged [] (head_of r.runs p) verdict → ⊥
+        → IsUntouched r judged (head_of r.runs p) verdict → ⊥
     head_touched p verdict inside (hits, untouched) =
         let (one, there, is) = run_judged p inside in
-        none_there one (untouched one there (ap (head_of r.runs) is))
+        untouched one there (ap (head_of r.runs) is)
 
     -- each node has a right verdict
     right_at : (n : ℕ) → n < length r.nodes → IsRightAt r.nodes r.shape start found n
@@ -121,7 +120,7 @@ module _ (r : Runs) (start : Start) (laws : Laws r start) where
           | inl untouched ↦
               let inner : IsHead r.numbers r.runs n → ⊥ = λ head.
               head_touched (run_of r.numbers n) verdict (laws.numbers n inside)
-              (subst (λ (k : ℕ). IsUntouched r judged [] k verdict) (sym head) untouched) in
+              (subst (λ (k : ℕ). IsUntouched r judged k verdict) (sym head) untouched) in
               (verdict, at, subst (IsNodeVerdict r.nodes r.shape start n) (sym untouched.0) (laws.inner n inside inner))
           | inr (one, there, head, is) ↦ (
             verdict,

@@ -1,8 +1,8 @@
 -- Spans of sets.
-use Rattle.std.proofs.Common.{◌≡◌, ℕ, ◌+◌, ◌++◌, ◌<◌, ◌≤◌, inl, inr, List, length, Option, Some, None, sym, ap, subst, arith}
+use Rattle.std.proofs.Common.{◌≡◌, ◌↔◌, ℕ, ◌+◌, ◌++◌, ◌<◌, ◌≤◌, inl, inr, List, [], length, Option, Some, None, sym, ap, subst, arith}
 use Rattle.std.proofs.lemmas.Bool.{cases_eq, cases_lt}
 use Rattle.std.specs.Prelude.{Result, Ok, Err, IfOk, IfErr, IsErrAnd}
-use Rattle.cache_spec.specs.Geometry.{Geometry}
+use Rattle.cache_spec.specs.Geometry.{Geometry, set_of}
 use Rattle.cache_spec.specs.Blocks.{HaveFew, HaveBlocks}
 use Rattle.cache_spec.specs.declared.start.Start.{Start}
 use Rattle.path_model.specs.declared.graph.Node.{Node}
@@ -13,10 +13,12 @@ use Rattle.set_view.specs.declared.fetched.ViewFault.TheVariants.{TooManyBlocks,
 use Rattle.set_view.specs.View.{IsFault}
 use Rattle.node_verdicts.specs.declared.judged.Judged.{Judged}
 use Rattle.node_verdicts.specs.declared.ranges.Span.{Span}
-use Rattle.node_verdicts.specs.Judged.{set_at, IsFetcher, AreJudged}
+use Rattle.age_spec.specs.Jobs.{IsJob}
+use Rattle.node_verdicts.specs.Found.{IsClearWithin}
+use Rattle.node_verdicts.specs.Judged.{block_at, set_at, IsFetcher, IsFetcherOf, AreJudged}
 use Rattle.node_verdicts.specs.Ranges.{IsSpan, AreFew, HaveManyWithin, IsFaultWithin, widened}
 use Rattle.node_verdicts.proofs.Counted.{few_unfetched}
-use Rattle.node_verdicts.proofs.Joined.{judged_as, judged_both}
+use Rattle.node_verdicts.proofs.Joined.{judged_none, judged_as, judged_both}
 
 -- the span of the sets that the first `count` nodes fetch; none where they fetch none
 abbrev pub IsSpanSoFar : List Node → Geometry → ℕ → ℕ → ℕ → Option Span → Type 0
@@ -124,20 +126,28 @@ module _ (nodes : List Node) (g : Geometry) (low high : ℕ) (span : Span) (is :
   fault_span (TooManyBlocks which count) many = many_span which count many
   fault_span OutOfMemory nothing = nothing
 
-  -- the nodes that fetch one of the sets are those that fetch one of the span
+  -- the nodes that fetch a clear block of the sets are those that fetch one of the span
   pub judged_span : (start : Start) (kept : Kept) (judged : List Judged)
-      → AreJudged nodes g start kept (IsFetcher nodes g span.first (span.last + 1)) judged
-      → AreJudged nodes g start kept (IsFetcher nodes g low high) judged
+      → AreJudged nodes g start kept (IsFetcherOf nodes g (IsClearWithin nodes g start span.first (span.last + 1))) judged
+      → AreJudged nodes g start kept (IsFetcherOf nodes g (IsClearWithin nodes g start low high)) judged
   judged_span start kept judged are =
-      judged_as nodes g start kept (IsFetcher nodes g span.first (span.last + 1)) (IsFetcher nodes g low high) judged are
+      judged_as nodes g start kept (IsFetcherOf nodes g (IsClearWithin nodes g start span.first (span.last + 1)))
+      (IsFetcherOf nodes g (IsClearWithin nodes g start low high)) judged are
       (λ n fetcher. record {
         inside = fetcher.inside;
-        above = omega (arith, is.low_end, fetcher.above);
-        below = omega (arith, is.high_end, fetcher.below);
+        among = record {
+          above = omega (arith, is.low_end, fetcher.among.above);
+          below = omega (arith, is.high_end, fetcher.among.below);
+          no_job = fetcher.among.no_job;
+        };
       })
       (λ n fetcher.
-      let within = is.all n fetcher in
-      record { inside = fetcher.inside; above = within.0; below = omega (arith, within.1) })
+      let within = is.all n
+      (record { inside = fetcher.inside; above = fetcher.among.above; below = fetcher.among.below }) in
+      record {
+        inside = fetcher.inside;
+        among = record { above = within.0; below = omega (arith, within.1); no_job = fetcher.among.no_job };
+      })
 
 -- few blocks of one set, as sets from it to the next one
 pub few_one : (nodes : List Node) (g : Geometry) (first last : ℕ) → first ≡ last → HaveFew (addresses_of nodes) g first
@@ -192,35 +202,84 @@ fault_second nodes g low middle high fits few OutOfMemory nothing = nothing
 -- the nodes of both parts are judged
 pub judged_parts : (nodes : List Node) (g : Geometry) (start : Start) (kept : Kept) (low middle high : ℕ)
     (xs ys all : List Judged) → low ≤ middle → middle ≤ high
-    → AreJudged nodes g start kept (IsFetcher nodes g low middle) xs
-    → AreJudged nodes g start kept (IsFetcher nodes g middle high) ys → all ≡ xs ++ ys
-    → AreJudged nodes g start kept (IsFetcher nodes g low high) all
+    → AreJudged nodes g start kept (IsFetcherOf nodes g (IsClearWithin nodes g start low middle)) xs
+    → AreJudged nodes g start kept (IsFetcherOf nodes g (IsClearWithin nodes g start middle high)) ys → all ≡ xs ++ ys
+    → AreJudged nodes g start kept (IsFetcherOf nodes g (IsClearWithin nodes g start low high)) all
 judged_parts nodes g start kept low middle high xs ys all above below first second is =
-    judged_both nodes g start kept (IsFetcher nodes g low middle) (IsFetcher nodes g middle high)
-    (IsFetcher nodes g low high) xs ys first second
-    (λ n one two. omega (arith, one.below, two.above))
-    (λ n one. record { inside = one.inside; above = one.above; below = omega (arith, one.below, below) })
-    (λ n two. record { inside = two.inside; above = omega (arith, two.above, above); below = two.below })
+    judged_both nodes g start kept (IsFetcherOf nodes g (IsClearWithin nodes g start low middle))
+    (IsFetcherOf nodes g (IsClearWithin nodes g start middle high))
+    (IsFetcherOf nodes g (IsClearWithin nodes g start low high)) xs ys first second
+    (λ n one two. omega (arith, one.among.below, two.among.above))
+    (λ n one. record {
+      inside = one.inside;
+      among = record {
+        above = one.among.above;
+        below = omega (arith, one.among.below, below);
+        no_job = one.among.no_job;
+      };
+    })
+    (λ n two. record {
+      inside = two.inside;
+      among = record {
+        above = omega (arith, two.among.above, above);
+        below = two.among.below;
+        no_job = two.among.no_job;
+      };
+    })
     (λ n fetcher. elim (cases_lt (set_at nodes g n) middle) [
-      | inl before ↦ inl (record { inside = fetcher.inside; above = fetcher.above; below = before })
-      | inr from ↦ inr (record { inside = fetcher.inside; above = from; below = fetcher.below })
+      | inl before ↦ inl (record {
+        inside = fetcher.inside;
+        among = record { above = fetcher.among.above; below = before; no_job = fetcher.among.no_job };
+      })
+      | inr from ↦ inr (record {
+        inside = fetcher.inside;
+        among = record { above = from; below = fetcher.among.below; no_job = fetcher.among.no_job };
+      })
     ])
     all is
+
+-- no node fetches a clear block of no sets
+pub judged_empty : (nodes : List Node) (g : Geometry) (start : Start) (kept : Kept) (low high : ℕ) (judged : List Judged)
+    → judged ≡ [] → ((n : ℕ) → IsFetcher nodes g low high n → ⊥)
+    → AreJudged nodes g start kept (IsFetcherOf nodes g (IsClearWithin nodes g start low high)) judged
+judged_empty nodes g start kept low high judged none nobody =
+    judged_none nodes g start kept (IsFetcherOf nodes g (IsClearWithin nodes g start low high)) judged none
+    (λ n fetcher.
+    nobody n (record { inside = fetcher.inside; above = fetcher.among.above; below = fetcher.among.below }))
+
+-- the clear blocks of two graphs that have the same jobs are the same
+pub judged_clear : (nodes : List Node) (g : Geometry) (start : Start) (kept : Kept) (low high : ℕ) (others : List Node)
+    (judged : List Judged)
+    → ((block : ℕ) → low ≤ set_of g block → set_of g block < high
+    → IsJob others g start block ↔ IsJob nodes g start block)
+    → AreJudged nodes g start kept (IsFetcherOf nodes g (IsClearWithin others g start low high)) judged
+    → AreJudged nodes g start kept (IsFetcherOf nodes g (IsClearWithin nodes g start low high)) judged
+judged_clear nodes g start kept low high others judged same are =
+    judged_as nodes g start kept (IsFetcherOf nodes g (IsClearWithin others g start low high))
+    (IsFetcherOf nodes g (IsClearWithin nodes g start low high)) judged are
+    (λ n fetcher.
+    let clear = fetcher.among in
+    record {
+      inside = fetcher.inside;
+      among = record {
+        above = clear.above;
+        below = clear.below;
+        no_job = λ job. clear.no_job ((same (block_at nodes g n) clear.above clear.below).1 job);
+      };
+    })
+    (λ n fetcher.
+    let clear = fetcher.among in
+    record {
+      inside = fetcher.inside;
+      among = record {
+        above = clear.above;
+        below = clear.below;
+        no_job = λ job. clear.no_job ((same (block_at nodes g n) clear.above clear.below).0 job);
+      };
+    })
 
 -- why nothing was found is handed on
 pub err_as : {A : Type 0} (Is : ViewFault → Type 0) (result : Result A ViewFault) (fault : ViewFault)
     → IsErrAnd result (λ e. e ≡ fault) → Is fault → IfErr result Is
 err_as Is (Ok found) fault same is = tt
 err_as Is (Err e) fault same is = subst Is (sym same) is
-
--- what holds of a result may be said otherwise
-pub ok_as : {A : Type 0} (Is Other : A → Type 0) (result : Result A ViewFault) → ((x : A) → Is x → Other x)
-    → IfOk result Is → IfOk result Other
-ok_as Is Other (Ok found) to is = to found is
-ok_as Is Other (Err fault) to is = tt
-
--- and so may what holds of its error
-pub err_also : {A : Type 0} (Is Other : ViewFault → Type 0) (result : Result A ViewFault)
-    → ((fault : ViewFault) → Is fault → Other fault) → IfErr result Is → IfErr result Other
-err_also Is Other (Ok found) to is = tt
-err_also Is Other (Err fault) to is = to fault is

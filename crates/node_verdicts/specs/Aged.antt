@@ -1,5 +1,6 @@
 -- The ages of the blocks of a set, and which fetches they settle.
 use Rattle.std.specs.Prelude.{◌≡◌, ℕ, ◌<◌, true, false, List, Some}
+use Rattle.std.specs.List.{Contains}
 use Rattle.cache_spec.specs.declared.start.Start.{Start}
 use Rattle.focus_spec.specs.Younger.{fetch_at}
 use Rattle.focus_spec.specs.Fate.{AllEnd}
@@ -29,9 +30,10 @@ pub record IsOpen (a : Aged) (block n : ℕ) : Type 0 where
   pub not_hit : age_of a.must n block ≡ a.view.geometry.ways
   pub not_miss : age_of a.may n block < a.view.geometry.ways
 
--- the node fetches the set, and its ages settle whether it hits
-abbrev pub IsSettled : Aged → ℕ → Type 0
-IsSettled a n = (block : ℕ) × (fetch_at a.view.fetches n ≡ Some block) × (IsOpen a block n → ⊥)
+-- the node fetches a block that isn't among these, and its ages settle whether it hits
+abbrev pub IsSettled : Aged → List ℕ → ℕ → Type 0
+IsSettled a unclear n = (block : ℕ) × (fetch_at a.view.fetches n ≡ Some block) × (IsOpen a block n → ⊥)
+    × (Contains unclear block → ⊥)
 
 -- no path that ends in the node can miss, or none can hit
 abbrev pub IsDecided : Aged → ℕ → Ends → Type 0

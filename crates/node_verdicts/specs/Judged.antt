@@ -16,9 +16,13 @@ use Rattle.node_verdicts.specs.declared.judged.Ends.{Ends}
 use Rattle.node_verdicts.specs.declared.judged.Ends.TheVariants.{Hits, Misses, Both}
 use Rattle.node_verdicts.specs.declared.judged.Judged.{Judged}
 
--- the set that a node fetches a block of
+-- the block that a node fetches
+abbrev pub block_at : List Node → Geometry → ℕ → ℕ
+block_at nodes g n = block_of g (address_of nodes n)
+
+-- the set that this block lies in
 abbrev pub set_at : List Node → Geometry → ℕ → ℕ
-set_at nodes g n = set_of g (block_of g (address_of nodes n))
+set_at nodes g n = set_of g (block_at nodes g n)
 
 -- a node fetches one of these sets: `low` and those above it, below `high`
 pub record IsFetcher (nodes : List Node) (g : Geometry) (low high n : ℕ) : Type 0 where
@@ -26,9 +30,10 @@ pub record IsFetcher (nodes : List Node) (g : Geometry) (low high n : ℕ) : Typ
   pub above : low ≤ set_at nodes g n
   pub below : set_at nodes g n < high
 
--- a node fetches one of the first `count` blocks of a view
-abbrev pub IsFetchOf : View → ℕ → ℕ → Type 0
-IsFetchOf view count n = (block : ℕ) × (block < count) × (fetch_at view.fetches n ≡ Some block)
+-- a node fetches one of these blocks
+pub record IsFetcherOf (nodes : List Node) (g : Geometry) (Among : ℕ → Type 0) (n : ℕ) : Type 0 where
+  pub inside : n < length nodes
+  pub among : Among (block_at nodes g n)
 
 -- what is said of the paths that end in the node is so, and the paths that are kept are such paths
 abbrev pub IsEnds : List Node → Geometry → Start → ℕ → Ends → Type 0
@@ -71,3 +76,8 @@ pub record AreJudged (nodes : List Node) (g : Geometry) (start : Start) (kept : 
   pub all : (n : ℕ) → Within n → (one : Judged) × Contains judged one × (one.node ≡ n)
   pub served : (one : Judged) → Contains judged one → one.ends ≡ Both None
       → (m : ℕ) × Serves nodes kept one.node m × HavePathsAt judged m
+
+-- each judgement has one that goes with it, and there is no other
+pub record AreMatched {X : Type 0} (Goes : Judged → X → Type 0) (judged : List Judged) (others : List X) : Type 0 where
+  pub each : (one : Judged) → Contains judged one → (other : X) × Contains others other × Goes one other
+  pub none_else : (other : X) → Contains others other → (one : Judged) × Contains judged one × Goes one other

@@ -1,12 +1,12 @@
 -- What is judged on a sparse graph, by the graph that it stands for.
 use Rattle.std.specs.Prelude.{◌≡◌, List, reverse, Some, None}
-use Rattle.std.specs.List.{Contains}
 use Rattle.transition_spec.specs.Path.{IsPath}
 use Rattle.path_model.specs.declared.graph.Node.{Node}
 use Rattle.path_model.specs.Graph.{graph_step}
 use Rattle.sparse_graph.specs.Plan.{origin_of}
 use Rattle.sparse_graph.specs.Sparse.{Sparse}
 use Rattle.sparse_graph.specs.Expand.{IsExpanded}
+use Rattle.node_verdicts.specs.Judged.{AreMatched}
 use Rattle.node_verdicts.specs.declared.judged.Paths.{Paths}
 use Rattle.node_verdicts.specs.declared.judged.Ends.{Ends}
 use Rattle.node_verdicts.specs.declared.judged.Ends.TheVariants.{Hits, Misses, Both}
@@ -35,6 +35,5 @@ pub record IsLifted (sparse : Sparse) (one lifted : Judged) : Type 0 where
   pub ends : IsLiftedEnds sparse one.ends lifted.ends
 
 -- each judgement is there on the whole graph, and there is no other
-pub record AreLifted (sparse : Sparse) (judged lifted : List Judged) : Type 0 where
-  pub each : (one : Judged) → Contains judged one → (other : Judged) × Contains lifted other × IsLifted sparse one other
-  pub none_else : (other : Judged) → Contains lifted other → (one : Judged) × Contains judged one × IsLifted sparse one other
+abbrev pub AreLifted : Sparse → List Judged → List Judged → Type 0
+AreLifted sparse = AreMatched (IsLifted sparse)

@@ -1,12 +1,14 @@
 -- Ranges of sets, and what is found of them.
-use Rattle.std.specs.Prelude.{ℕ, ◌<◌, ◌≤◌, min, max, List, Option, Some, None}
+use Rattle.std.specs.Prelude.{◌≡◌, ℕ, ◌+◌, ◌<◌, ◌≤◌, min, max, List, Option, Some, None}
 use Rattle.cache_spec.specs.Geometry.{Geometry}
 use Rattle.cache_spec.specs.Blocks.{block_limit, HaveBlocks, HaveFew}
 use Rattle.path_model.specs.declared.graph.Node.{Node}
 use Rattle.path_model.specs.Graph.{addresses_of}
 use Rattle.set_view.specs.declared.fetched.ViewFault.{ViewFault}
 use Rattle.set_view.specs.declared.fetched.ViewFault.TheVariants.{TooManyBlocks, OutOfMemory}
+use Rattle.sparse_graph.specs.Sparse.{IsSparse, KeepsSets}
 use Rattle.node_verdicts.specs.declared.ranges.Span.{Span}
+use Rattle.node_verdicts.specs.declared.ranges.SpanGraph.{SpanGraph}
 use Rattle.node_verdicts.specs.Judged.{set_at, IsFetcher}
 
 -- a span with one more set
@@ -21,6 +23,12 @@ pub record IsSpan (nodes : List Node) (g : Geometry) (low high : ℕ) (span : Sp
   pub high_end : span.last < high
   pub all : (n : ℕ) → IsFetcher nodes g low high n
       → (span.first ≤ set_at nodes g n) × (set_at nodes g n ≤ span.last)
+
+-- the graph is one of these nodes, and keeps each that fetches a set of its span
+pub record IsSpanGraph (nodes : List Node) (g : Geometry) (graph : SpanGraph) : Type 0 where
+  pub is_sparse : IsSparse graph.sparse
+  pub nodes_are : graph.sparse.nodes ≡ nodes
+  pub keeps : KeepsSets graph.sparse g graph.span.first (graph.span.last + 1)
 
 -- few blocks are fetched of each of these sets
 abbrev pub AreFew : List Node → Geometry → ℕ → ℕ → Type 0

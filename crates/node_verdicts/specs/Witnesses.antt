@@ -12,7 +12,7 @@ use Rattle.age_exists.specs.Solving.{Solving, MissesFirst}
 use Rattle.node_verdicts.specs.declared.witnesses.FirstMisses.{FirstMisses}
 use Rattle.node_verdicts.specs.declared.witnesses.BothBounds.{BothBounds}
 use Rattle.node_verdicts.specs.declared.witnesses.Witnesses.{Witnesses}
-use Rattle.node_verdicts.specs.declared.witnesses.Witnesses.TheVariants.{Firsts, Bounds, Search}
+use Rattle.node_verdicts.specs.declared.witnesses.Witnesses.TheVariants.{Firsts, Bounds}
 use Rattle.node_verdicts.specs.Aged.{Aged, IsOpen}
 
 -- the view and the ages that a solver has
@@ -67,30 +67,20 @@ pub record AreShownAt (bounds : BothBounds) (n : ℕ) : Type 0 where
 abbrev pub view_of : Witnesses → View
 view_of (Firsts firsts) = firsts.hit.view
 view_of (Bounds bounds) = bounds.hit.view
-view_of (Search found) = found.view
 
 -- and what its set may hold at first
 abbrev pub start_of : Witnesses → Start
 start_of (Firsts firsts) = firsts.hit.start
 start_of (Bounds bounds) = bounds.hit.start
-start_of (Search found) = found.start
 
--- it is known what the paths can do that end in a node: paths of both kinds are shown, or the block that it fetches was
--- searched
+-- it is known what the paths can do that end in a node: paths of both kinds are shown
 abbrev pub IsKnownAt : Witnesses → ℕ → Type 0
 IsKnownAt (Firsts firsts) n = IsShownFirst firsts n
 IsKnownAt (Bounds bounds) n = AreShownAt bounds n
-IsKnownAt (Search found) n = fetch_at found.view.fetches n ≡ Some found.block
 
--- a block is searched exactly where it has an unclear fetch
-abbrev pub IsSearched : Aged → ℕ → Witnesses → Type 0
-IsSearched a block (Firsts firsts) = HasUnclear a.view a.start block → ⊥
-IsSearched a block (Bounds bounds) = HasUnclear a.view a.start block → ⊥
-IsSearched a block (Search found) = HasUnclear a.view a.start block
-
--- it is known of each open fetch of the block
+-- it is known of each open fetch of the block, none of which is unclear
 pub record AreWitnesses (a : Aged) (block : ℕ) (w : Witnesses) : Type 0 where
   pub view : view_of w ≡ a.view
   pub start : start_of w ≡ a.start
   pub known : (n : ℕ) → IsOpen a block n → IsKnownAt w n
-  pub searched : IsSearched a block w
+  pub clear : HasUnclear a.view a.start block → ⊥

@@ -47,13 +47,17 @@ impl<'v, 'g> SetAges<'v, 'g> {
         })
     }
 
-    /// What the paths can do that end in a node, where it fetches the set and the ages settle that.
-    pub(crate) fn settled_at(&self, node: u32) -> Option<Ends>
+    /// What the paths can do that end in a node, where it fetches another block of the set than the unclear ones, and the
+    /// ages settle that.
+    pub(crate) fn settled_at(&self, node: u32, unclear: &[u16]) -> Option<Ends>
         requires { node < length self.now.view.nodes }
-        ensures some { IfSome result (λ ends. IsSettled self.now node × IsDecided self.now node ends) }
-        ensures none { IfNone result (IsSettled self.now node → ⊥) }
+        ensures some { IfSome result (λ ends. IsSettled self.now unclear.now node × IsDecided self.now node ends) }
+        ensures none { IfNone result (IsSettled self.now unclear.now node → ⊥) }
     {
         let block = self.view.fetch(node)?;
+        if unclear.contains(&block) {
+            return None;
+        }
         self.settled(node, block)
     }
 

@@ -26,7 +26,7 @@ pub(crate) struct Judged {
     pub ends: Ends,
 }
 
-/// What is judged of some nodes, and the blocks that they fetch and that the ages leave unclear.
+/// What is judged of the nodes that fetch blocks which the ages settle, and the blocks that they leave unclear.
 #[derive(Drop)]
 pub(crate) struct Found {
     pub judged: Vec<Judged>,

@@ -9,13 +9,17 @@
 #![tactic(auto)]
 
 mod aged;
+mod block_jobs;
 mod bounds;
 mod judged;
 mod lift;
 mod noting;
+mod one_block;
 mod one_set;
 mod open_fetches;
+mod parts;
 mod ranges;
+mod set_parts;
 #[cfg(test)]
 mod tests;
 mod verdicts;

@@ -1,14 +1,21 @@
 // The verdicts of the nodes, by what is judged of the runs.
-ghost use Rattle.std.specs.Prelude.{◌≡◌, ◌<◌, ◌++◌, List, [], length, replicate, slice_set, IfOk, OnOk};
+ghost use Rattle.std.specs.Prelude.{◌≡◌, ◌<◌, length, replicate, slice_set, IfOk};
 ghost use Rattle.std.specs.List.{Contains};
 ghost use Rattle.node_spec.specs.declared.verdict.NodeVerdict.TheVariants.{Hits};
 ghost use Rattle.node_verdicts.specs.Lifted.{HavePaths};
-ghost use Rattle.node_verdicts.specs.Noted.{AreNoted, IsVerdictFor};
+ghost use Rattle.node_verdicts.specs.Noted.{AreVerdictsOf, IsHeadVerdict, IsVerdictFor, with_heads};
 
 use crate::judged::{Ends, Judged, Paths};
-use line_blocks::{LineBlocks, run_laws, way_of};
+use line_blocks::{LineBlocks, way_of};
 use node_spec::{NodeVerdict, Ways};
 use std::alloc::{AllocError, Global};
+
+/// The verdict of the first node of a run.
+#[derive(Drop)]
+pub(crate) struct HeadVerdict {
+    pub node: u32,
+    pub verdict: NodeVerdict,
+}
 
 /// Hits for each node. Where no judgement of a run is noted, the node isn't the first of one, and always hits.
 pub(crate) fn hits(alloc: Global, count: usize) -> Result<Vec<NodeVerdict>, AllocError>
@@ -21,34 +28,49 @@ pub(crate) fn hits(alloc: Global, count: usize) -> Result<Vec<NodeVerdict>, Allo
     Ok(verdicts)
 }
 
-/// Notes verdicts by what is judged of runs: the first node of a run does what the run does.
-pub(crate) fn note_all(
+/// The verdicts of the first nodes of runs, by what is judged of the runs: the first node does what its run does.
+pub(crate) fn verdicts_of(
     alloc: Global,
     blocks: &LineBlocks,
     judged: Vec<Judged>,
-    verdicts: &mut Vec<NodeVerdict>,
-) -> Result<(), AllocError>
-    requires runs { (one : Judged) → Contains judged.items one → one.node < length blocks.now.runs }
-    requires paths { (one : Judged) → Contains judged.items one → HavePaths blocks.now.small one.ends }
-    requires one_each { length verdicts.old.items ≡ length blocks.now.nodes }
-    ensures { OnOk result ((earlier : List Judged) → AreNoted blocks.now earlier [] verdicts.old.items
-        → AreNoted blocks.now (earlier ++ judged.items) [] verdicts.new.items) }
+) -> Result<Vec<HeadVerdict>, AllocError>
+    requires { (one : Judged) → Contains judged.items one → HavePaths blocks.now.small one.ends }
+    ensures { IfOk result (λ heads. AreVerdictsOf blocks.now judged.items heads.items) }
 {
-    run_laws();
     let mut left = judged;
+    let mut heads = Vec::with_capacity(alloc, left.len())?;
     while let Some(one) = left.pop() {
-        let head = blocks.origin(one.node);
-        let verdict = verdict_of(alloc, blocks, one.ends)?;
-        note(verdicts, head, verdict);
+        heads.push(head_verdict(alloc, blocks, one)?)?;
     }
-    Ok(())
+    Ok(heads)
+}
+
+fn head_verdict(alloc: Global, blocks: &LineBlocks, one: Judged) -> Result<HeadVerdict, AllocError>
+    requires { HavePaths blocks.now.small one.ends }
+    ensures { IfOk result (IsHeadVerdict blocks.now one) }
+{
+    Ok(HeadVerdict {
+        node: blocks.origin(one.node),
+        verdict: verdict_of(alloc, blocks, one.ends)?,
+    })
+}
+
+/// Notes the verdicts of some nodes.
+pub(crate) fn note_all(heads: Vec<HeadVerdict>, verdicts: &mut Vec<NodeVerdict>)
+    requires { (head : HeadVerdict) → Contains heads.items head → head.node < length verdicts.old.items }
+    ensures { verdicts.new.items ≡ with_heads heads.items verdicts.old.items }
+{
+    for head in heads {
+        note(verdicts, head);
+    }
 }
 
 // Notes the verdict of a node.
-fn note(verdicts: &mut Vec<NodeVerdict>, node: u32, verdict: NodeVerdict)
-    requires { node < length verdicts.old.items }
-    ensures { verdicts.new.items ≡ slice_set verdicts.old.items node verdict }
+fn note(verdicts: &mut Vec<NodeVerdict>, head: HeadVerdict)
+    requires { head.node < length verdicts.old.items }
+    ensures { verdicts.new.items ≡ slice_set verdicts.old.items head.node head.verdict }
 {
+    let HeadVerdict { node, verdict } = head;
     verdicts[node as usize] = verdict;
 }
 

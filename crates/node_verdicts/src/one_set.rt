@@ -1,15 +1,17 @@
 // What the nodes do that fetch one set.
-ghost use Rattle.std.specs.Prelude.{◌≡◌, ◌↔◌, ◌+◌, ◌++◌, ◌∷◌, [], ◌<◌, ℕ, false, true, length, slice_index_or, IfOk, IfErr, OnOk};
+ghost use Rattle.std.specs.Prelude.{◌≡◌, ◌+◌, ◌++◌, ◌∷◌, [], ◌<◌, ℕ, false, length, map, IfOk, IfErr, IfSome, IfNone, OnOk};
 ghost use Rattle.std.specs.List.{Contains};
 ghost use Rattle.cache_spec.specs.Blocks.{HaveFew};
+ghost use Rattle.focus_spec.specs.Younger.{named};
 ghost use Rattle.node_spec.specs.declared.verdict.Kept.TheVariants.{EachAddress};
 ghost use Rattle.path_model.specs.Graph.{address_of, addresses_of};
 ghost use Rattle.set_view.specs.View.{IsFault, IsView};
-ghost use Rattle.node_verdicts.specs.Judged.{AreJudged, IsFetcher, IsFetchOf, addresses_with};
+ghost use Rattle.age_spec.specs.Settled.{HasUnclear};
+ghost use Rattle.node_verdicts.specs.Judged.{AreJudged, IsFetcherOf, addresses_with};
 ghost use Rattle.node_verdicts.specs.Aged.{IsOpen, IsSettled};
-ghost use Rattle.node_verdicts.specs.Open.{AreOpen, AreOpenOf};
+ghost use Rattle.node_verdicts.specs.Open.{AreOpen, AreOpenOf, AreUnclear, IsClearFetch, IsClearOpen, judged_in, unclear_with};
 ghost use Rattle.node_verdicts.specs.Witnesses.{AreWitnesses, aged_of};
-ghost use Rattle.node_verdicts.specs.Found.{AreJobsWithin, AreJobsOf, IsJobHere};
+ghost use Rattle.node_verdicts.specs.Found.{AreJobsWithin, AreJobsOf, IsClearWithin};
 
 use crate::aged::SetAges;
 use crate::judged::{Ends, Found, Judged};
@@ -22,8 +24,15 @@ use path_model::{Graph, Start};
 use set_view::{SetView, ViewFault, view};
 use std::alloc::{AllocError, Global};
 
-/// What the paths can do that end in each node which fetches the set, and which of the set's blocks the ages leave
-/// unclear. The error has the number of the set's fetched blocks where they are too many.
+/// What is judged of the open fetches of some blocks of a set, and which of these blocks have an unclear fetch.
+#[derive(Drop)]
+struct OpenFound {
+    judged: Vec<Judged>,
+    unclear: Vec<u16>,
+}
+
+/// What the paths can do that end in each node which fetches a block of the set that the ages settle, and the blocks that
+/// they leave unclear. The error has the number of the set's fetched blocks where they are too many.
 pub(crate) fn judge_set(
     alloc: Global,
     graph: &Graph,
@@ -34,7 +43,8 @@ pub(crate) fn judge_set(
 ) -> Result<Found, ViewFault>
     requires { set < geometry.now.sets }
     ensures judged { IfOk result (λ found. AreJudged graph.now geometry.now start kept
-        (IsFetcher graph.now geometry.now set (set + 1)) found.judged.items) }
+        (IsFetcherOf graph.now geometry.now (IsClearWithin graph.now geometry.now start set (set + 1)))
+        found.judged.items) }
     ensures jobs { IfOk result (λ found. AreJobsWithin graph.now geometry.now start set (set + 1) found.jobs.items) }
     ensures few { IfOk result (λ found. HaveFew (addresses_of graph.now) geometry.now set) }
     ensures fault { IfErr result (λ fault. IsFault graph.now geometry.now set fault) }
@@ -44,12 +54,11 @@ pub(crate) fn judge_set(
     Ok(found)
 }
 
-// The same of each node that fetches a block of the view. The ages settle what they can; each block with a fetch that
-// they leave open is judged by itself.
+// The same of each node that fetches a block of the view.
 fn judge_view(alloc: Global, view: &SetView, start: Start, kept: Kept) -> Result<Found, AllocError>
     requires { IsView view.now }
     ensures judged { IfOk result (λ found. AreJudged view.now.nodes view.now.geometry start kept
-        (IsFetchOf view.now (length view.now.blocks)) found.judged.items) }
+        (IsClearFetch view.now start) found.judged.items) }
     ensures jobs { IfOk result (λ found. AreJobsOf view.now start (length view.now.blocks) found.jobs.items) }
 {
     let ages = SetAges::of(alloc, view, start)?;
@@ -57,7 +66,7 @@ fn judge_view(alloc: Global, view: &SetView, start: Start, kept: Kept) -> Result
     judge_aged(alloc, &ages, &fetches, kept)
 }
 
-// What the ages settle, and what they leave open.
+// What the ages settle: must and may ages by themselves, and the bounds of each block whose fetches these leave open.
 fn judge_aged(
     alloc: Global,
     ages: &SetAges,
@@ -66,69 +75,118 @@ fn judge_aged(
 ) -> Result<Found, AllocError>
     requires { AreOpen ages.now fetches.now }
     ensures judged { IfOk result (λ found. AreJudged ages.now.view.nodes ages.now.view.geometry ages.now.start kept
-        (IsFetchOf ages.now.view (length ages.now.view.blocks)) found.judged.items) }
+        (IsClearFetch ages.now.view ages.now.start) found.judged.items) }
     ensures jobs { IfOk result (λ found.
         AreJobsOf ages.now.view ages.now.start (length ages.now.view.blocks) found.jobs.items) }
 {
-    let view = ages.view;
-    let settled = judge_settled(alloc, ages)?;
-    if fetches.are_none() {
-        return Ok(Found {
-            judged: settled,
-            jobs: Vec::new(alloc),
-        });
-    }
-    let solver = BlockSolver::new(alloc, view, ages.start, &ages.must, &ages.may)?;
-    judge_blocks(alloc, ages, &solver, fetches, kept, settled)
+    let blocks = ages.view.blocks();
+    let open = judge_opened(alloc, ages, fetches, kept)?;
+    let mut judged = judge_settled(alloc, ages, &open.unclear)?;
+    let jobs = numbers_of(alloc, blocks, &open.unclear)?;
+    let mut opened = open.judged;
+    judged.append(&mut opened)?;
+    Ok(Found { judged, jobs })
 }
 
-// What was judged before, and each block with a fetch that the ages leave open.
+// What is judged of the open fetches of all blocks. Where there are none, no bounds are asked for.
+fn judge_opened(
+    alloc: Global,
+    ages: &SetAges,
+    fetches: &OpenFetches,
+    kept: Kept,
+) -> Result<OpenFound, AllocError>
+    requires { AreOpen ages.now fetches.now }
+    ensures judged { IfOk result (λ found. AreJudged ages.now.view.nodes ages.now.view.geometry ages.now.start kept
+        (IsClearOpen ages.now (length ages.now.view.blocks)) found.judged.items) }
+    ensures unclear { IfOk result (λ found.
+        AreUnclear ages.now (length ages.now.view.blocks) found.unclear.items) }
+{
+    let view = ages.view;
+    if fetches.are_none() {
+        return Ok(OpenFound::none(alloc));
+    }
+    let solver = BlockSolver::new(alloc, view, ages.start, &ages.must, &ages.may)?;
+    judge_blocks(alloc, ages, &solver, fetches, kept)
+}
+
+// The same of each block with a fetch that must and may ages leave open.
 fn judge_blocks(
     alloc: Global,
     ages: &SetAges,
     solver: &BlockSolver,
     fetches: &OpenFetches,
     kept: Kept,
-    settled: Vec<Judged>,
-) -> Result<Found, AllocError>
+) -> Result<OpenFound, AllocError>
     requires solver { aged_of solver.now ≡ ages.now }
     requires fetches { AreOpen ages.now fetches.now }
-    requires settled { AreJudged ages.now.view.nodes ages.now.view.geometry ages.now.start kept
-        (IsSettled ages.now) settled.items }
     ensures judged { IfOk result (λ found. AreJudged ages.now.view.nodes ages.now.view.geometry ages.now.start kept
-        (IsFetchOf ages.now.view (length ages.now.view.blocks)) found.judged.items) }
-    ensures jobs { IfOk result (λ found.
-        AreJobsOf ages.now.view ages.now.start (length ages.now.view.blocks) found.jobs.items) }
+        (IsClearOpen ages.now (length ages.now.view.blocks)) found.judged.items) }
+    ensures unclear { IfOk result (λ found.
+        AreUnclear ages.now (length ages.now.view.blocks) found.unclear.items) }
 {
     let blocks = ages.view.blocks();
-    let mut found = Found {
-        judged: settled,
-        jobs: Vec::new(alloc),
-    };
+    let mut found = OpenFound::none(alloc);
     for block in 0..blocks.len() as u16 {
         let nodes = fetches.of_block(block);
         if !nodes.is_empty() {
-            found.append(judge_block(alloc, ages, solver, block, nodes, kept)?)?;
+            found.add(block, judge_block(alloc, ages, solver, block, nodes, kept)?)?;
         }
     }
     Ok(found)
 }
 
-// What the ages settle.
-fn judge_settled(alloc: Global, ages: &SetAges) -> Result<Vec<Judged>, AllocError>
+impl OpenFound {
+    // Nothing yet.
+    fn none(alloc: Global) -> Self
+        ensures judged { result.judged.items ≡ [] }
+        ensures unclear { result.unclear.items ≡ [] }
+    {
+        OpenFound {
+            judged: Vec::new(alloc),
+            unclear: Vec::new(alloc),
+        }
+    }
+
+    // Adds what is judged of one more block, or that it has an unclear fetch.
+    fn add(&mut self, block: u16, judged: Option<Vec<Judged>>) -> Result<(), AllocError>
+        ensures judged { OnOk result (self.new.judged.items ≡ self.old.judged.items ++ judged_in judged) }
+        ensures unclear { OnOk result (self.new.unclear.items ≡ unclear_with judged block self.old.unclear.items) }
+    {
+        match judged {
+            Some(mut more) => self.judged.append(&mut more)?,
+            None => self.unclear.push(block)?,
+        }
+        Ok(())
+    }
+}
+
+// What must and may ages settle of the blocks that aren't unclear.
+fn judge_settled(alloc: Global, ages: &SetAges, unclear: &[u16]) -> Result<Vec<Judged>, AllocError>
     ensures { IfOk result (λ judged. (kept : Kept) → AreJudged ages.now.view.nodes ages.now.view.geometry ages.now.start kept
-        (IsSettled ages.now) judged.items) }
+        (IsSettled ages.now unclear.now) judged.items) }
 {
     let mut judged = Vec::new(alloc);
     for node in 0..ages.view.graph().nodes().len() as u32 {
-        if let Some(ends) = ages.settled_at(node) {
+        if let Some(ends) = ages.settled_at(node, unclear) {
             judged.push(Judged { node, ends })?;
         }
     }
     Ok(judged)
 }
 
-// The same of each node whose fetch of the block the ages leave open: these nodes.
+// The numbers of some of these blocks, by their places.
+fn numbers_of(alloc: Global, blocks: &[u32], places: &[u16]) -> Result<Vec<u32>, AllocError>
+    requires { (place : ℕ) → Contains places.now place → place < length blocks.now }
+    ensures { IfOk result (λ numbers. numbers.items ≡ map (named blocks.now) places.now) }
+{
+    let mut numbers = Vec::with_capacity(alloc, places.len())?;
+    for &place in places {
+        numbers.push(blocks[place as usize])?;
+    }
+    Ok(numbers)
+}
+
+// What is judged of the open fetches of a block, in these nodes; none where one of them is unclear.
 fn judge_block(
     alloc: Global,
     ages: &SetAges,
@@ -136,40 +194,20 @@ fn judge_block(
     block: u16,
     nodes: &[u32],
     kept: Kept,
-) -> Result<Found, AllocError>
+) -> Result<Option<Vec<Judged>>, AllocError>
     requires block { block < length ages.now.view.blocks }
     requires solver { aged_of solver.now ≡ ages.now }
     requires nodes { AreOpenOf ages.now block nodes.now }
-    ensures judged { IfOk result (λ found. AreJudged ages.now.view.nodes ages.now.view.geometry ages.now.start kept
-        (IsOpen ages.now block) found.judged.items) }
-    ensures jobs { IfOk result (λ found. (number : ℕ) → Contains found.jobs.items number
-        ↔ IsJobHere ages.now.view ages.now.start block number) }
+    ensures judged { IfOk result (λ found. IfSome found (λ judged.
+        AreJudged ages.now.view.nodes ages.now.view.geometry ages.now.start kept (IsOpen ages.now block) judged.items)) }
+    ensures clear { IfOk result (λ found. IfSome found (λ judged. HasUnclear ages.now.view ages.now.start block → ⊥)) }
+    ensures unclear { IfOk result (λ found. IfNone found (HasUnclear ages.now.view ages.now.start block)) }
 {
-    let witnesses = find_witnesses(alloc, ages, solver, block, nodes)?;
-    Ok(Found {
-        judged: judge_open(alloc, ages, block, nodes, &witnesses, kept)?,
-        jobs: jobs_of(alloc, ages, block, &witnesses)?,
-    })
-}
-
-// The block, where it was searched.
-fn jobs_of(
-    alloc: Global,
-    ages: &SetAges,
-    block: u16,
-    witnesses: &Witnesses,
-) -> Result<Vec<u32>, AllocError>
-    requires block { block < length ages.now.view.blocks }
-    requires witnesses { AreWitnesses ages.now block witnesses.now }
-    ensures { IfOk result (λ jobs. (number : ℕ) → Contains jobs.items number
-        ↔ IsJobHere ages.now.view ages.now.start block number) }
-{
-    let mut jobs = Vec::new(alloc);
-    match witnesses {
-        Witnesses::Firsts(_) | Witnesses::Bounds(_) => {}
-        Witnesses::Search(_) => jobs.push(ages.view.blocks()[block as usize])?,
-    }
-    Ok(jobs)
+    let Some(witnesses) = find_witnesses(alloc, ages, solver, block, nodes)? else {
+        return Ok(None);
+    };
+    let judged = judge_open(alloc, ages, block, nodes, &witnesses, kept)?;
+    Ok(Some(judged))
 }
 
 // What the paths can do that end in each node whose fetch of the block is open: these nodes.
@@ -196,16 +234,16 @@ fn judge_open(
     Ok(judged)
 }
 
-// The address of a node.
-fn address_of(view: &SetView, node: u32) -> u32
+/// The address of a node.
+pub(crate) fn address_of(view: &SetView, node: u32) -> u32
     requires { node < length view.now.nodes }
     ensures { result ≡ address_of view.now.nodes node }
 {
     view.graph().nodes()[node as usize].at
 }
 
-// Adds one more node, and its address where its paths are kept.
-fn add(
+/// Adds one more node, and its address where its paths are kept.
+pub(crate) fn add(
     addresses: &mut Vec<u32>,
     judged: &mut Vec<Judged>,
     at: u32,
@@ -221,8 +259,8 @@ fn add(
     Ok(())
 }
 
-// Whether paths are kept at one more node, whose address this is; they are kept at nodes of these addresses.
-fn wants(kept: Kept, addresses: &[u32], at: u32) -> bool
+/// Whether paths are kept at one more node, whose address this is; they are kept at nodes of these addresses.
+pub(crate) fn wants(kept: Kept, addresses: &[u32], at: u32) -> bool
     ensures { result ≡ false → (kept ≡ EachAddress) × Contains addresses.now at }
 {
     match kept {

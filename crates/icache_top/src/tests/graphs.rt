@@ -7,7 +7,7 @@ use std::test::Fail;
 
 /// The instructions, by offset; all other words are `nop`s. A jump leads into a loop, both branches of which come back
 /// through 0x10010.
-const TWO_WAYS: [(usize, u32); 9] = [
+pub(crate) const TWO_WAYS: [(usize, u32); 9] = [
     (0x00, 0x0080006f),
     (0x04, 0x00100073),
     (0x08, 0x06050c63),

@@ -99,7 +99,7 @@ fn branches_and_calls_are_classified(rt: HostRuntime) -> Result<(), Fail> {
 }
 
 /// A loop of two instructions within a loop of six.
-const NESTED: [u32; 7] = [0x13, 0x13, 0xfe051ee3, 0x13, 0x13, 0xfedff06f, 0x100073];
+pub(crate) const NESTED: [u32; 7] = [0x13, 0x13, 0xfe051ee3, 0x13, 0x13, 0xfedff06f, 0x100073];
 
 #[test]
 fn the_blocks_that_ages_leave_unclear_are_the_jobs(rt: HostRuntime) -> Result<(), Fail> {
@@ -327,7 +327,7 @@ fn greater_programs_are_refused(rt: HostRuntime) -> Result<(), Fail> {
 
 /// The 200 bytes of an executable as a linker lays it out: its headers lie in its executable segment, with two functions
 /// that call and branch, and what is never reached; a second segment has no bytes in the file.
-fn linked(alloc: Global) -> Result<Vec<u8>, AllocError> {
+pub(crate) fn linked(alloc: Global) -> Result<Vec<u8>, AllocError> {
     let words = [
         0x464c457f, 0x00010101, 0, 0, 0x00f30002, 1, 0x10074, 0x34, 0, 0, 0x00200034, 2, 0, 1, 0,
         0x10000, 0x10000, 0xc8, 0xc8, 5, 0x1000, 1, 0xc8, 0x110c8, 0x110c8, 0, 0x100, 6, 0x1000,

@@ -5,6 +5,7 @@ use Rattle.elf_image.specs.Fits.{SegmentFits}
 use Rattle.command_spec.specs.declared.settings.Ask.{Ask}
 use Rattle.command_spec.specs.declared.settings.Ask.TheVariants.{Report, Graph}
 use Rattle.command_spec.specs.declared.settings.Settings.{Settings}
+use Rattle.command_spec.specs.Settings.{IsInRange}
 use Rattle.top_words.specs.declared.status.Status.{Status}
 use Rattle.icache_top.specs.Answer.{SaysOfProgram, Tells, program_for, status_of}
 use Rattle.icache_top.proofs.SendsFor.{elf_reported, program_reported}
@@ -20,8 +21,12 @@ returns-in_err-image-clause-reported g c =
 abbrev Kept : Image → Type 0
 Kept image = All (SegmentFits (length image.file)) image.segments
 
-pub classify-requires : goal.classify-requires
-classify-requires g c = within c.in-Report.ask.isa c.in_ok-image.image (subst Kept c.image.view_is c.image.invariant.each)
+pub classify-requires-clause-within : goal.classify-requires-clause-within
+classify-requires-clause-within g c =
+    within c.in-Report.ask.isa c.in_ok-image.image (subst Kept c.image.view_is c.image.invariant.each)
+
+pub classify-requires-clause-ranges : goal.classify-requires-clause-ranges
+classify-requires-clause-ranges g c = subst IsInRange c.in-Report.is c.requires.ranges
 
 -- what is said of the program is said of the file, where this is what the settings ask for and where it begins
 says : (settings : Settings) (file : List ℕ) (image : Image) (own entry : ℕ) (ask : Ask) (status : Status)

@@ -56,7 +56,7 @@ send_report-requires g c = (
   found_now (program c.args.image.now c.args.ask.now.isa c.line.result c.args.entry) c.args.ask.now c.in_ok-expanded.expanded c.in_ok-expanded.ensures.accepted
       c.in_ok-expanded.ensures.graph (λ v. v.verdicts.items) c.graph.result.now c.node_verdicts.result c.in_ok-settled.settled
       c.deref-2.result.now
-      (sym c.settled.ensures ∙ c.in_ok-settled.was) c.deref-2.ensures.value c.graph.ensures.same c.requires
+      (sym c.settled.ensures ∙ c.in_ok-settled.was) c.deref-2.ensures.value c.graph.ensures.same c.requires.within
       c.node_verdicts.ensures.one_each c.node_verdicts.ensures.right c.kept_for-kept.result c.kept_for-kept.ensures
       c.node_verdicts.ensures.ways,
 )
@@ -68,7 +68,7 @@ returns-in_err-send_report-clause-reported g c =
     c.node_verdicts.result
     c.in_ok-settled.settled c.deref-2.result.now (sym c.settled.ensures ∙ c.in_ok-settled.was) c.deref-2.ensures.value
     c.graph.ensures.same
-    c.requires c.node_verdicts.ensures.one_each c.node_verdicts.ensures.right c.kept_for-kept.result c.kept_for-kept.ensures
+    c.requires.within c.node_verdicts.ensures.one_each c.node_verdicts.ensures.right c.kept_for-kept.result c.kept_for-kept.ensures
     c.node_verdicts.ensures.ways c.node_verdicts.ensures.few
     (SendsPrefix (g.O.Sink.sent c.args.out.now) (g.O.Sink.sent c.send_report.new.out))
     c.in_err-send_report.ensures.part in
@@ -83,7 +83,7 @@ returns-clause-reported g c =
     (wanted_now (program c.args.image.now c.args.ask.now.isa c.line.result c.args.entry) c.args.ask.now c.in_ok-expanded.expanded c.in_ok-expanded.ensures.accepted
     c.in_ok-expanded.ensures.graph (λ v. v.verdicts.items) c.graph.result.now c.node_verdicts.result c.in_ok-settled.settled
     c.deref-2.result.now
-    (sym c.settled.ensures ∙ c.in_ok-settled.was) c.deref-2.ensures.value c.graph.ensures.same c.requires
+    (sym c.settled.ensures ∙ c.in_ok-settled.was) c.deref-2.ensures.value c.graph.ensures.same c.requires.within
     c.node_verdicts.ensures.one_each c.node_verdicts.ensures.right c.kept_for-kept.result c.kept_for-kept.ensures
     c.node_verdicts.ensures.ways c.node_verdicts.ensures.few
     (Appends (g.O.Sink.sent c.args.out.now) (g.O.Sink.sent c.send_report.new.out)) c.in_ok-send_report.ensures.whole)

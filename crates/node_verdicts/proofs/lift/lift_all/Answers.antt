@@ -2,7 +2,8 @@ use Rattle.std.proofs.Common.{ℕ, ◌++◌, ◌-◌, [], List, take, sym, ap, �
 use Rattle.std.proofs.lemmas.List.Elements.{Contains-push}
 use Rattle.std.specs.List.{Contains}
 use Rattle.node_verdicts.specs.declared.judged.Judged.{Judged}
-use Rattle.node_verdicts.proofs.Lifted.{lifting_more, lifting_all}
+use Rattle.node_verdicts.specs.Lifted.{IsLifted}
+use Rattle.node_verdicts.proofs.Matched.{matching_more, matching_all}
 use Rattle.node_verdicts.proofs.lift.lift_all.Goals as goal
 
 pub lift-requires : goal.lift-requires
@@ -13,14 +14,14 @@ lift-requires c =
 
 pub loop-one-preserved : goal.loop-one-preserved
 loop-one-preserved c =
-    lifting_more c.args.sparse.now c.args.judged.items c.loop-one.left.items c.pop.new.self.items
+    matching_more (IsLifted c.args.sparse.now) c.args.judged.items c.loop-one.left.items c.pop.new.self.items
     c.loop-one.lifted.items c.push.new.self.items c.in-Some.one c.in_ok-lift.field-0 c.in-Some.ensures.items
     c.in_ok-push.ensures.items c.in_ok-lift.ensures c.loop-one.invariant
 
 pub returns : goal.returns
 returns c =
     let left = c.loop-one.left.items in
-    lifting_all c.args.sparse.now c.args.judged.items left c.loop-one.lifted.items
+    matching_all (IsLifted c.args.sparse.now) c.args.judged.items left c.loop-one.lifted.items
     (c.in_default.ensures.items ∙ ap (λ (xs : List Judged). xs ++ []) (c.in_default.ensures.rest
     ∙ ap (λ (n : ℕ). take (n - 1) left) c.in_default.ensures.cases.0))
     c.loop-one.invariant

@@ -1,12 +1,11 @@
 use Rattle.node_verdicts.specs.Judged.{AreJudged}
-use Rattle.node_verdicts.specs.Found.{AreJobsOf}
-use Rattle.node_verdicts.proofs.ByAges.{IsLookedAt}
+use Rattle.node_verdicts.specs.Open.{AreUnclear, IsClearOpen}
 use Rattle.node_verdicts.proofs.one_set.judge_blocks.Given as goal
 
--- what the ages settle is judged, and what they leave open of the first blocks
+-- the open fetches of the first blocks are judged, where none of the block's is unclear
 abbrev pub invariant-loop-block : goal.invariant-loop-block
 invariant-loop-block l = record {
-  judged : AreJudged l.ages.view.nodes l.ages.view.geometry l.ages.start l.fn.kept (IsLookedAt l.ages l.block)
+  judged : AreJudged l.ages.view.nodes l.ages.view.geometry l.ages.start l.fn.kept (IsClearOpen l.ages l.block)
       l.found.judged.items;
-  jobs : AreJobsOf l.ages.view l.ages.start l.block l.found.jobs.items;
+  unclear : AreUnclear l.ages l.block l.found.unclear.items;
 }

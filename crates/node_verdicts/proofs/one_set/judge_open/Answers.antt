@@ -26,6 +26,12 @@ address_of-at-requires c =
       ap (λ (b : Aged). length b.view.nodes) c.ages.view_is,
     )
 
+pub ends_at-requires : goal.ends_at-requires
+ends_at-requires c =
+    let node = get_or c.args.nodes.now c.loop-node.node-index 0 in
+    c.requires.witnesses.known node
+    ((c.requires.nodes.members node).0 (Contains-get_or c.args.nodes.now c.loop-node.node-index 0 c.loop-node-test.true))
+
 pub loop-node-init : goal.loop-node-init
 loop-node-init c =
     let a : Aged = c.args.ages.now in

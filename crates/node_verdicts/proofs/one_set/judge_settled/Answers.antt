@@ -16,15 +16,15 @@ loop-node-preserved c = λ kept.
       | in-Some+in_ok-push w ↦
           let ends = w.in-Some.ends in
           let (is, decided) = w.in-Some.ensures.some in
-          so_far_more a.view a.start kept (IsSettled a) node [] judged (c.loop-node.invariant kept) is ends
+          so_far_more a.view a.start kept (IsSettled a c.args.unclear.now) node [] judged (c.loop-node.invariant kept) is ends
           (decided_right a node ends decided) (λ none. absurd (decided_not_none a node ends decided none))
           c.match-settled_at.judged.items []
           (ap (λ (v : Vec Judged Global). v.items) w.judged-is ∙ w.in_ok-push.ensures.items)
           (sym (decided_with a node ends (address_of a.view.nodes node) [] decided))
       | in_default w ↦
-          subst (AreSoFar a.view a.start kept (IsSettled a) (node + 1) [])
+          subst (AreSoFar a.view a.start kept (IsSettled a c.args.unclear.now) (node + 1) [])
           (ap (λ (v : Vec Judged Global). v.items) (sym w.judged-is))
-          (so_far_passed a.view a.start kept (IsSettled a) node [] judged (c.loop-node.invariant kept)
+          (so_far_passed a.view a.start kept (IsSettled a c.args.unclear.now) node [] judged (c.loop-node.invariant kept)
           w.in_default.ensures.none)
     ]
 
@@ -43,5 +43,5 @@ returns c = λ kept.
       c.loop-node-test.false,
       c.loop-node.auto.node-end,
     ) in
-    so_far_all a.view a.start kept (IsSettled a) c.loop-node.node [] c.loop-node.judged.items
-    (c.loop-node.invariant kept) (λ n (block, fetches, not). omega (arith, all, fetch_inside a.view.fetches n block fetches))
+    so_far_all a.view a.start kept (IsSettled a c.args.unclear.now) c.loop-node.node [] c.loop-node.judged.items
+    (c.loop-node.invariant kept) (λ n (block, fetches, not, clear). omega (arith, all, fetch_inside a.view.fetches n block fetches))

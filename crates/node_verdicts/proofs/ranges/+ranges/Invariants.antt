@@ -1,6 +1,6 @@
 use Rattle.std.proofs.Common.{◌+◌, ◌-◌, ◌*◌, ◌≤◌}
-use Rattle.node_verdicts.specs.Judged.{AreJudged, IsFetcher}
-use Rattle.node_verdicts.specs.Found.{AreJobsWithin}
+use Rattle.node_verdicts.specs.Judged.{AreJudged, IsFetcherOf}
+use Rattle.node_verdicts.specs.Found.{AreJobsWithin, IsClearWithin}
 use Rattle.node_verdicts.specs.Ranges.{AreFew}
 use Rattle.node_verdicts.proofs.ranges.+ranges.Given as goal
 
@@ -16,8 +16,8 @@ abbrev pub invariant-judge_span-loop-low : goal.invariant-judge_span-loop-low
 invariant-judge_span-loop-low l = record {
   above : l.first ≤ l.low;
   below : l.low ≤ l.last + 1;
-  judged : AreJudged l.graph l.geometry l.fn.start l.fn.kept (IsFetcher l.graph l.geometry l.first l.low)
-      l.found.judged.items;
+  judged : AreJudged l.graph l.geometry l.fn.start l.fn.kept
+      (IsFetcherOf l.graph l.geometry (IsClearWithin l.graph l.geometry l.fn.start l.first l.low)) l.found.judged.items;
   jobs : AreJobsWithin l.graph l.geometry l.fn.start l.first l.low l.found.jobs.items;
   few : AreFew l.graph l.geometry l.first l.low;
 }

@@ -6,21 +6,22 @@ use Rattle.transition_spec.specs.Path.{IsPath}
 use Rattle.path_model.specs.declared.graph.Node.{Node}
 use Rattle.path_model.specs.Graph.{graph_step, address_of}
 use Rattle.age_spec.specs.Jobs.{IsJob}
-use Rattle.node_verdicts.specs.Judged.{set_at}
+use Rattle.node_verdicts.specs.Judged.{set_at, IsFetcher}
 use Rattle.node_verdicts.specs.Ranges.{AreFew, IsFaultWithin}
 use Rattle.node_verdicts.specs.Found.{AreJobsWithin}
 use Rattle.node_verdicts.specs.Verdicts.{IsFault}
 use Rattle.node_spec.specs.declared.verdict.NodeVerdict.{NodeVerdict}
-use Rattle.node_verdicts.specs.Noted.{IsAllNoted}
+use Rattle.node_verdicts.specs.Noted.{IsNoted}
 use Rattle.node_verdicts.proofs.Right.{Laws, right_whole, ways_whole, few_all, fault_all}
 use Rattle.node_verdicts.proofs.Jobs.{jobs_as, jobs_all}
 use Rattle.node_verdicts.proofs.Spans.{err_as}
 use Rattle.node_verdicts.proofs.verdicts.node_verdicts.Goals as goal
+use Rattle.node_verdicts.proofs.verdicts.node_verdicts.Given.{Over}
 use Rattle.node_verdicts.proofs.verdicts.node_verdicts.Goals.{In_ok-blocks}
 
 -- what holds of the runs
-laws_of : (c : In_ok-blocks) → Laws c.in_ok-blocks.blocks c.args.start
-laws_of c =
+laws_of : (k : Over) (c : In_ok-blocks k) → Laws c.in_ok-blocks.blocks c.args.start
+laws_of k c =
     let r = c.in_ok-blocks.blocks in
     let are = c.in_ok-blocks.ensures.runs in
     record {
@@ -47,58 +48,59 @@ laws_of c =
     }
 
 -- each block lies in one of the sets
-set_below : (c : In_ok-blocks) (block : ℕ) → set_of c.args.geometry.now block < c.args.geometry.now.sets
-set_below c block = omega (arith, c.sets-sets.ensures.least, c.sets-sets.ensures.value)
+set_below : (k : Over) (c : In_ok-blocks k) (block : ℕ) → set_of c.args.geometry.now block < c.args.geometry.now.sets
+set_below k c block = omega (arith, c.sets-sets.ensures.least, c.sets-sets.ensures.value)
 
 -- and so each node fetches one of them
-sets_below : (c : In_ok-blocks) (p : ℕ)
+sets_below : (k : Over) (c : In_ok-blocks k) (p : ℕ)
     → set_at c.in_ok-blocks.blocks.small c.in_ok-blocks.blocks.shape p < c.args.geometry.now.sets
-sets_below c p =
+sets_below k c p =
     let g = c.args.geometry.now in
     let small = c.in_ok-blocks.blocks.small in
     subst (λ (h : Geometry). set_at small h p < g.sets) (sym c.in_ok-blocks.ensures.shape)
-    (set_below c (block_of g (address_of small p)))
+    (set_below k c (block_of g (address_of small p)))
 
 -- what is noted, where the shape of the cache is that of the runs
-noted_by : (c : In_ok-blocks) (found : List NodeVerdict)
-    → IsAllNoted c.in_ok-blocks.blocks c.args.geometry.now c.args.start c.args.kept c.args.geometry.now.sets found
-    → IsAllNoted c.in_ok-blocks.blocks c.in_ok-blocks.blocks.shape c.args.start c.args.kept c.args.geometry.now.sets
-    found
-noted_by c found noted =
-    subst (λ (h : Geometry). IsAllNoted c.in_ok-blocks.blocks h c.args.start c.args.kept c.args.geometry.now.sets found)
-    (sym c.in_ok-blocks.ensures.shape) noted
+noted_by : (k : Over) (c : In_ok-blocks k) (found : List NodeVerdict)
+    → IsNoted c.in_ok-blocks.blocks c.args.geometry.now c.args.start c.args.kept
+    (IsFetcher c.in_ok-blocks.blocks.small c.args.geometry.now 0 c.args.geometry.now.sets) found
+    → IsNoted c.in_ok-blocks.blocks c.in_ok-blocks.blocks.shape c.args.start c.args.kept
+    (IsFetcher c.in_ok-blocks.blocks.small c.in_ok-blocks.blocks.shape 0 c.args.geometry.now.sets) found
+noted_by k c found noted =
+    subst (λ (h : Geometry). IsNoted c.in_ok-blocks.blocks h c.args.start c.args.kept
+    (IsFetcher c.in_ok-blocks.blocks.small h 0 c.args.geometry.now.sets) found) (sym c.in_ok-blocks.ensures.shape) noted
 
 pub returns-clause-right : goal.returns-clause-right
-returns-clause-right c =
-    let known = (goal.at.returns-clause-right c).In_ok-blocks in
+returns-clause-right k c =
+    let known = (goal.at.returns-clause-right k c).In_ok-blocks in
     let r = c.in_ok-blocks.blocks in
     let g = c.args.geometry.now in
     let found = c.in_ok-settled.settled.verdicts.items in
-    let noted = noted_by known found c.in_ok-settled.ensures.noted in
-    right_whole r c.args.start (laws_of known) c.args.kept g.sets noted.judged found (sets_below known) noted.are
+    let noted = noted_by k known found c.in_ok-settled.ensures.noted in
+    right_whole r c.args.start (laws_of k known) c.args.kept g.sets noted.judged found (sets_below k known) noted.are
     noted.noted c.args.graph.now g c.in_ok-blocks.ensures.nodes c.in_ok-blocks.ensures.shape
 
 pub returns-clause-ways : goal.returns-clause-ways
-returns-clause-ways c =
-    let known = (goal.at.returns-clause-ways c).In_ok-blocks in
+returns-clause-ways k c =
+    let known = (goal.at.returns-clause-ways k c).In_ok-blocks in
     let r = c.in_ok-blocks.blocks in
     let found = c.in_ok-settled.settled.verdicts.items in
-    let noted = noted_by known found c.in_ok-settled.ensures.noted in
-    ways_whole r c.args.start (laws_of known) c.args.kept c.args.geometry.now.sets noted.judged found (sets_below known)
+    let noted = noted_by k known found c.in_ok-settled.ensures.noted in
+    ways_whole r c.args.start (laws_of k known) c.args.kept c.args.geometry.now.sets noted.judged found (sets_below k known)
     noted.are noted.noted c.args.graph.now c.in_ok-blocks.ensures.nodes
 
 pub returns-clause-few : goal.returns-clause-few
-returns-clause-few c =
-    let known = (goal.at.returns-clause-few c).In_ok-blocks in
+returns-clause-few k c =
+    let known = (goal.at.returns-clause-few k c).In_ok-blocks in
     let r = c.in_ok-blocks.blocks in
     let g = c.args.geometry.now in
-    few_all r c.args.start (laws_of known) c.args.graph.now g c.in_ok-blocks.ensures.nodes c.in_ok-blocks.ensures.shape
+    few_all r c.args.start (laws_of k known) c.args.graph.now g c.in_ok-blocks.ensures.nodes c.in_ok-blocks.ensures.shape
     (subst (λ (h : Geometry). AreFew r.small h 0 g.sets) (sym c.in_ok-blocks.ensures.shape)
     c.in_ok-settled.ensures.few)
 
 pub returns-clause-jobs : goal.returns-clause-jobs
-returns-clause-jobs c =
-    let known = (goal.at.returns-clause-jobs c).In_ok-blocks in
+returns-clause-jobs k c =
+    let known = (goal.at.returns-clause-jobs k c).In_ok-blocks in
     let r = c.in_ok-blocks.blocks in
     let g = c.args.geometry.now in
     let start = c.args.start in
@@ -108,17 +110,16 @@ returns-clause-jobs c =
     (c.job_laws.ensures.runs r start block c.in_ok-blocks.ensures.runs) in
     let whole = subst (λ (ns : List Node). AreJobsWithin ns g start 0 g.sets jobs) c.in_ok-blocks.ensures.nodes
     (jobs_as r.small g start 0 g.sets r.nodes (λ block above below. same block) jobs c.in_ok-settled.ensures.jobs) in
-    jobs_all c.args.graph.now g start jobs c.in_ok-jobs.jobs.items (set_below known) whole c.in_ok-jobs.ensures.rising
-    c.in_ok-jobs.ensures.same
+    jobs_all c.args.graph.now g start jobs (set_below k known) whole c.in_ok-settled.ensures.rising
 
 pub returns-in_err-settled-clause-fault : goal.returns-in_err-settled-clause-fault
-returns-in_err-settled-clause-fault c =
-    let known = (goal.at.returns-in_err-settled-clause-fault c).In_ok-blocks in
+returns-in_err-settled-clause-fault k c =
+    let known = (goal.at.returns-in_err-settled-clause-fault k c).In_ok-blocks in
     let r = c.in_ok-blocks.blocks in
     let g = c.args.geometry.now in
     let fault = c.in_err-settled.field-0.0 in
     err_as (IsFault c.args.graph.now g) _ fault c.from_residual-in_err-settled.ensures.1
-    (fault_all r c.args.start (laws_of known) c.args.graph.now g fault c.in_ok-blocks.ensures.nodes
+    (fault_all r c.args.start (laws_of k known) c.args.graph.now g fault c.in_ok-blocks.ensures.nodes
     c.in_ok-blocks.ensures.shape
     (subst (λ (h : Geometry). IsFaultWithin r.small h 0 g.sets fault) (sym c.in_ok-blocks.ensures.shape)
     c.in_err-settled.ensures.fault))

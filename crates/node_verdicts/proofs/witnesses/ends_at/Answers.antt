@@ -15,9 +15,3 @@ returns-in-Bounds-clause-ends c =
     subst (λ (w : Witnesses). IfOk c.shown_ends.result
     (IsEnds (view_of w).nodes (view_of w).geometry (start_of w) c.args.node)) (sym c.in-Bounds.is)
     c.shown_ends.ensures.ends
-
-pub returns-in-Search-clause-ends : goal.returns-in-Search-clause-ends
-returns-in-Search-clause-ends c =
-    subst (λ (w : Witnesses). IfOk c.searched_ends.result
-    (IsEnds (view_of w).nodes (view_of w).geometry (start_of w) c.args.node)) (sym c.in-Search.is)
-    c.searched_ends.ensures.ends

@@ -13,8 +13,8 @@ are_shown-requires-clause-fetches c =
     open_fetches a (subst AreAges c.ages.view_is c.ages.invariant) c.args.block c.in_ok-hit.hit hits.view hits.block_is
     c.args.nodes.now c.requires.nodes
 
-pub searched-requires-clause-unclear : goal.searched-requires-clause-unclear
-searched-requires-clause-unclear c =
+pub returns-then-not-are_shown-clause-none : goal.returns-then-not-are_shown-clause-none
+returns-then-not-are_shown-clause-none c =
     let a : Aged = c.args.ages.now in
     let is = c.in_ok-hit.ensures in
     let hits = hits_of a c.args.solver.now c.args.block c.in_ok-hit.hit c.requires.solver is.view is.start is.block is.hits
@@ -22,8 +22,8 @@ searched-requires-clause-unclear c =
     unclear_hit a (subst AreAges c.ages.view_is c.ages.invariant) c.args.block c.in_ok-hit.hit hits c.args.nodes.now
     c.requires.nodes (c.if-not-are_shown.ensures.some refl)
 
-pub returns-then-branch : goal.returns-then-branch
-returns-then-branch c =
+pub returns-then-branch-clause-some : goal.returns-then-branch-clause-some
+returns-then-branch-clause-some c =
     let a : Aged = c.args.ages.now in
     let is = c.in_ok-hit.ensures in
     let hits = hits_of a c.args.solver.now c.args.block c.in_ok-hit.hit c.requires.solver is.view is.start is.block is.hits
@@ -42,7 +42,7 @@ returns-then-branch c =
             hit = shown n there;
             miss = first n there;
           };
-      searched = none_unclear_first a (subst AreAges c.ages.view_is c.ages.invariant) c.args.block
+      clear = none_unclear_first a (subst AreAges c.ages.view_is c.ages.invariant) c.args.block
           c.in_ok-hit.hit hits c.args.nodes.now c.requires.nodes shown c.args.solver.now c.requires.solver first;
     }
 
@@ -55,8 +55,8 @@ are_shown-requires-2-clause-fetches c =
     open_fetches a (subst AreAges c.ages.view_is c.ages.invariant) c.args.block c.in_ok-miss.miss misses.view
     misses.block_is c.args.nodes.now c.requires.nodes
 
-pub searched-requires-then-not-are_shown-2-clause-unclear : goal.searched-requires-then-not-are_shown-2-clause-unclear
-searched-requires-then-not-are_shown-2-clause-unclear c =
+pub returns-then-not-are_shown-2-clause-none : goal.returns-then-not-are_shown-2-clause-none
+returns-then-not-are_shown-2-clause-none c =
     let a : Aged = c.args.ages.now in
     let is = c.in_ok-miss.ensures in
     let misses = misses_of a c.args.solver.now c.args.block c.in_ok-miss.miss c.requires.solver is.view is.start is.block
@@ -64,8 +64,8 @@ searched-requires-then-not-are_shown-2-clause-unclear c =
     unclear_miss a (subst AreAges c.ages.view_is c.ages.invariant) c.args.block c.in_ok-miss.miss misses c.args.nodes.now
     c.requires.nodes (c.if-not-are_shown-2.ensures.some refl)
 
-pub returns : goal.returns
-returns c =
+pub returns-clause-some : goal.returns-clause-some
+returns-clause-some c =
     let a : Aged = c.args.ages.now in
     let hit = c.in_ok-hit.ensures in
     let miss = c.in_ok-miss.ensures in
@@ -88,6 +88,6 @@ returns c =
             hit = shown n there;
             miss = missed n there;
           };
-      searched = none_unclear_both a (subst AreAges c.ages.view_is c.ages.invariant) c.args.block
+      clear = none_unclear_both a (subst AreAges c.ages.view_is c.ages.invariant) c.args.block
           c.in_ok-hit.hit c.in_ok-miss.miss hits misses c.args.nodes.now c.requires.nodes shown missed;
     }

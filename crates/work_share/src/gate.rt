@@ -1,4 +1,4 @@
-/// Hears when a worker begins a job. What it does is its own affair, so that a test can watch the workers.
+/// Is told of each job before a worker runs it. What it does is its own affair, so that a test can watch the workers.
 pub trait Gate {
     fn began(&self, worker: u32, job: u32);
 }
