@@ -1,7 +1,7 @@
 -- Spans of sets.
 use Rattle.std.proofs.Common.{◌≡◌, ◌↔◌, ℕ, ◌+◌, ◌++◌, ◌<◌, ◌≤◌, inl, inr, List, [], length, Option, Some, None, sym, ap, subst, arith}
 use Rattle.std.proofs.lemmas.Bool.{cases_eq, cases_lt}
-use Rattle.std.specs.Prelude.{Result, Ok, Err, IfOk, IfErr, IsErrAnd}
+use Rattle.std.specs.Prelude.{Result, Ok, Err, IfErr, IsErrAnd}
 use Rattle.cache_spec.specs.Geometry.{Geometry, set_of}
 use Rattle.cache_spec.specs.Blocks.{HaveFew, HaveBlocks}
 use Rattle.cache_spec.specs.declared.start.Start.{Start}

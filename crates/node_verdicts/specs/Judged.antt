@@ -5,12 +5,10 @@ use Rattle.cache_spec.specs.declared.start.Start.{Start}
 use Rattle.cache_spec.specs.Geometry.{Geometry, block_of, set_of}
 use Rattle.path_model.specs.declared.graph.Node.{Node}
 use Rattle.path_model.specs.Graph.{address_of}
-use Rattle.focus_spec.specs.Younger.{fetch_at}
 use Rattle.focus_spec.specs.Fate.{AllEnd}
 use Rattle.focus_plain.specs.Judged.{IsPathTo}
 use Rattle.node_spec.specs.declared.verdict.Kept.{Kept}
 use Rattle.node_spec.specs.declared.verdict.Kept.TheVariants.{EachNode, EachAddress}
-use Rattle.set_view.specs.View.{View}
 use Rattle.node_verdicts.specs.declared.judged.Paths.{Paths}
 use Rattle.node_verdicts.specs.declared.judged.Ends.{Ends}
 use Rattle.node_verdicts.specs.declared.judged.Ends.TheVariants.{Hits, Misses, Both}

@@ -1,7 +1,6 @@
 -- Blocks that are searched, and what is found of them.
 use Rattle.std.specs.Prelude.{◌≡◌, ℕ, ◌<◌, List, length, slice_index}
 use Rattle.std.specs.List.{All}
-use Rattle.path_model.specs.declared.graph.Node.{Node}
 use Rattle.node_verdicts.specs.declared.judged.Judged.{Judged}
 use Rattle.node_verdicts.specs.declared.noting.HeadVerdict.{HeadVerdict}
 use Rattle.node_verdicts.specs.declared.block_jobs.BlockJob.{BlockJob}

@@ -1,4 +1,6 @@
 // Reports that several workers work out.
+ghost use Rattle.std.specs.Prelude.{◌≤◌, length};
+
 use crate::tests::graphs::{TWO_WAYS, two_ways};
 use crate::tests::reports::{NESTED, linked};
 use crate::tests::{Ran, has_jobs, run_on, run_with, wrap};
@@ -30,17 +32,20 @@ fn put(words: &mut Vec<u32>, place: usize, word: u32) {
 fn without_ways(alloc: Global, report: &[u8]) -> Result<Vec<u8>, AllocError> {
     let mut kept = Vec::new(alloc);
     for line in report.split(|byte| *byte == b'\n') {
-        kept.extend_from_slice(verdict_of(line))?;
+        kept.extend_from_slice(&line[..verdict_end(line)])?;
         kept.push(b'\n')?;
     }
     Ok(kept)
 }
 
-fn verdict_of(line: &[u8]) -> &[u8] {
+/// Where a line's verdict ends.
+fn verdict_end(line: &[u8]) -> usize
+    ensures { result ≤ length line.now }
+{
     if line.len() > 18 && line[11..].starts_with(b"unknown") {
-        &line[..18]
+        18
     } else {
-        line
+        line.len()
     }
 }
 

@@ -22,11 +22,11 @@ abbrev Kept : Image → Type 0
 Kept image = All (SegmentFits (length image.file)) image.segments
 
 pub classify-requires-clause-within : goal.classify-requires-clause-within
-classify-requires-clause-within g c =
+classify-requires-clause-within g c κs lives =
     within c.in-Report.ask.isa c.in_ok-image.image (subst Kept c.image.view_is c.image.invariant.each)
 
 pub classify-requires-clause-ranges : goal.classify-requires-clause-ranges
-classify-requires-clause-ranges g c = subst IsInRange c.in-Report.is c.requires.ranges
+classify-requires-clause-ranges g c κs lives = subst IsInRange c.in-Report.is c.requires.ranges
 
 -- what is said of the program is said of the file, where this is what the settings ask for and where it begins
 says : (settings : Settings) (file : List ℕ) (image : Image) (own entry : ℕ) (ask : Ask) (status : Status)

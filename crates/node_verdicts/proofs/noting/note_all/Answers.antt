@@ -1,4 +1,4 @@
-use Rattle.std.proofs.Common.{◌≡◌, ◌<◌, ◌∙◌, Global, List, length, get_or, sym, ap, arith}
+use Rattle.std.proofs.Common.{◌∙◌, Global, List, length, sym, ap, arith}
 use Rattle.std.specs.List.{Contains}
 use Rattle.std.specs.Prelude.{slice_set}
 use Rattle.std.proofs.lemmas.Iterator.{YieldsList}

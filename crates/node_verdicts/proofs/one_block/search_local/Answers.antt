@@ -2,7 +2,6 @@ use Rattle.std.proofs.Common.{◌≡◌, ◌+◌, ◌∙◌, ℕ, true, false, L
 use Rattle.std.specs.List.{Contains}
 use Rattle.cache_spec.specs.declared.start.Start.{Start}
 use Rattle.focus_spec.specs.Younger.{fetch_at}
-use Rattle.path_model.specs.Graph.{address_of}
 use Rattle.set_view.specs.View.{View, IsView}
 use Rattle.focus_plain.specs.Judged.{Judged as Searched}
 use Rattle.node_verdicts.specs.declared.judged.Judged.{Judged}

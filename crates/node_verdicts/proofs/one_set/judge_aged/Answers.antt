@@ -1,4 +1,4 @@
-use Rattle.std.proofs.Common.{ℕ, ◌∙◌, List, length, map, sym, ap, subst, arith}
+use Rattle.std.proofs.Common.{ℕ, ◌∙◌, List, length, map, ap, subst, arith}
 use Rattle.std.specs.List.{Contains}
 use Rattle.focus_spec.specs.Younger.{named}
 use Rattle.node_verdicts.specs.Aged.{Aged, AreAges, IsSettled}

@@ -1,10 +1,9 @@
-use Rattle.std.proofs.Common.{rules, ◌≡◌, ◌<◌, ◌≤◌, ◌+◌, ◌∙◌, ℕ, Vec, Global, List, length, get_or, sym, ap, subst, arith}
+use Rattle.std.proofs.Common.{rules, ◌≡◌, ◌<◌, ◌∙◌, ℕ, Vec, Global, length, get_or, sym, subst, arith}
 use Rattle.std.proofs.lemmas.Iterator.{YieldsList}
 use Rattle.std.proofs.lemmas.Iterator.Adapters.{YieldsList-from_vec}
 use Rattle.std.proofs.lemmas.Iterator.Consumers.{YieldsList-turn, YieldsList-end}
 use Rattle.std.proofs.lemmas.List.{length_push}
 use Rattle.std.specs.Vec.Iter.{into_iter_steps}
-use Rattle.cache_spec.specs.Geometry.{set_of}
 use Rattle.node_verdicts.specs.declared.noting.HeadVerdict.{HeadVerdict}
 use Rattle.node_verdicts.specs.Searches.{IsSearched}
 use Rattle.node_verdicts.proofs.Parted.{heads_inside}

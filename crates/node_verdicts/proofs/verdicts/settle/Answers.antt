@@ -1,4 +1,4 @@
-use Rattle.std.proofs.Common.{rules, ◌≡◌, ℕ, List, sym, subst}
+use Rattle.std.proofs.Common.{ℕ, List, sym, subst}
 use Rattle.node_verdicts.specs.Found.{AreJobsWithin}
 use Rattle.node_verdicts.proofs.Jobs.{jobs_rising}
 use Rattle.node_verdicts.proofs.verdicts.settle.Given.{Over}

@@ -1,4 +1,4 @@
-use Rattle.std.proofs.Common.{◌≡◌, ◌<◌, ◌≤◌, ◌+◌, ◌∙◌, ℕ, Global, List, length, replicate, get_or, sym, ap, subst, arith}
+use Rattle.std.proofs.Common.{◌≡◌, ◌<◌, ◌+◌, ◌∙◌, ℕ, Global, List, length, replicate, get_or, sym, ap, subst, arith}
 use Rattle.std.proofs.lemmas.Iterator.{YieldsList}
 use Rattle.std.proofs.lemmas.Iterator.Adapters.{YieldsList-from_vec}
 use Rattle.std.proofs.lemmas.Iterator.Consumers.{YieldsList-turn, YieldsList-end}
@@ -8,7 +8,6 @@ use Rattle.path_model.specs.declared.graph.Node.{Node}
 use Rattle.node_spec.specs.declared.verdict.NodeVerdict.TheVariants.{Hits}
 use Rattle.set_view.specs.declared.fetched.ViewFault.TheVariants as faults
 use Rattle.node_verdicts.specs.declared.set_parts.Part.{Part}
-use Rattle.node_verdicts.specs.declared.set_parts.PartFound.{PartFound}
 use Rattle.node_verdicts.specs.Parts.{first_of, runs_of, IsPart, IsPartFound}
 use Rattle.node_verdicts.specs.Noted.{IsNoted}
 use Rattle.node_verdicts.specs.Judged.{IsFetcherOf}
